@@ -226,7 +226,7 @@ module _ (P : Program) (function : Name → ℕ) (signature : Name → SourceTyp
 
   -- ---- a function by its name
 
-  function-known : (n : Name) (t : SourceType) → NameGoes q r (plain.function n t) → may_be_named n t ≡ true
+  function-known : (n : Name) (t : SourceType) → NameGoes q r (λ j b. ⊥) (plain.function n t) → may_be_named n t ≡ true
       → G (Is (a_function n) (of_type t)) (acts again P regs (plain.function (q n) t) s w)
   function-known n t goes e = by-library (is_library (q n)) refl
     where
@@ -265,7 +265,7 @@ module _ (P : Program) (function : Name → ℕ) (signature : Name → SourceTyp
 
   -- ---- all
 
-  pub action-known : (f : Name) (a : Action) → NameGoes q r a → action_alike g a ≡ true → G (Is (known_by [] f g a) (fact_by g h a)) (acts again P regs (renamed_action q a) s w)
+  pub action-known : (f : Name) (a : Action) → NameGoes q r (λ j b. ⊥) a → action_alike g a ≡ true → G (Is (known_by [] f g a) (fact_by g h a)) (acts again P regs (renamed_action q a) s w)
   action-known f (plain.number z) goes e = given (Is (a_number z) no_fact) (source.Number z) refl
   action-known f (plain.static_object n t) goes e = static-known n t goes e
   action-known f (plain.text j b) goes e = absurd goes

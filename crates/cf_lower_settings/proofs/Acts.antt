@@ -216,7 +216,7 @@ module _ (P : Program) (function : Name → ℕ) (signature : Name → SourceTyp
               rel = rel-zeros T told.parts x.place.object s clear-here typed x.place.route free Kx F u.memory N.none refl x.known live rel;
               next = refl;
               elsewhere = λ b f. refl;
-              depth = refl;
+              frame = refl;
               literals = refl;
               finished = refl;
             });

@@ -23,14 +23,14 @@ use Rattle.cf_lower_settings.specs.Set.{Since}
 
 module _ (K : Fixed) (F : Map) where
   pub since-none : (s : State) (m : Memory) → Rel K F s m → Since K F s m s m
-  since-none s m rel = record { rel = rel; next = refl; elsewhere = λ b free. refl; depth = refl; literals = refl; finished = refl }
+  since-none s m rel = record { rel = rel; next = refl; elsewhere = λ b free. refl; frame = refl; literals = refl; finished = refl }
 
   pub since-then : (s t u : State) (m n o : Memory) → Since K F s m t n → Since K F t n u o → Since K F s m u o
   since-then s t u m n o a b = record {
     rel = b.rel;
     next = b.next ∙ a.next;
     elsewhere = λ c free. b.elsewhere c free ∙ a.elsewhere c free;
-    depth = b.depth ∙ a.depth;
+    frame = b.frame ∙ a.frame;
     literals = b.literals ∙ a.literals;
     finished = b.finished ∙ a.finished;
   }
@@ -40,7 +40,7 @@ module _ (K : Fixed) (F : Map) where
     rel = record { count = r.count; type = r.type; laid = r.laid; gone = r.gone; stands = r.stands; below = r.below; apart = r.apart };
     next = refl;
     elsewhere = λ b free. refl;
-    depth = refl;
+    frame = refl;
     literals = refl;
     finished = refl;
   }

@@ -8,5 +8,7 @@ pub mod Clear
 pub mod Done
 pub mod Bytes
 pub mod Acts
+pub mod Later
+pub mod Literals
 pub mod Statements
 pub mod Settings

@@ -56,7 +56,7 @@ shown-live hidden e = refl
 shown-live shown e = refl
 shown-live ended e = absurd (cc)
 
-shown-visible : (st : Stage) → is_shown st ≡ true → is_hidden st ≡ false
+pub shown-visible : (st : Stage) → is_shown st ≡ true → is_hidden st ≡ false
 shown-visible hidden e = absurd (cc)
 shown-visible shown e = refl
 shown-visible ended e = refl
@@ -207,7 +207,7 @@ module _ (P : Program) (none : P.classes ≡ []) (function : Name → ℕ) (sign
           rel = done.rel;
           next = done.next;
           elsewhere = λ b free. done.elsewhere b (other-block b (F.block p.object) (λ e. free p.object known live e));
-          depth = refl;
+          frame = refl;
           literals = refl;
           finished = refl;
         };

@@ -1,5 +1,5 @@
 -- What setting static objects with constants does in both programs.
-use Rattle.std.specs.Prelude.{◌≡◌, ℕ, ◌<◌, true, List, [], Some}
+use Rattle.std.specs.Prelude.{◌≡◌, ℕ, ◌≤◌, ◌<◌, true, List, [], Some}
 use Rattle.cf_core.specs.Types.{Name, SourceType}
 use Rattle.cf_base.specs.World.{Ran, Went, Stops}
 use Rattle.cf_core.specs.Core.{Function}
@@ -16,11 +16,12 @@ use Rattle.cc_whole_mean.specs.Flow as c
 use Rattle.cc_whole_mean.specs.Scope.{Scope}
 use Rattle.cf_lower_layout.specs.Layout.{offset, leads}
 use Rattle.cf_lower_layout.specs.Sorts.{Sort, sort_of}
+use Rattle.cf_lower.specs.Written.{literal_name}
 use Rattle.cf_lower_place.specs.Named.{library_type}
 use Rattle.cf_lower_relate.specs.Map.{Fixed, Map, is_shown}
 use Rattle.cf_lower_relate.specs.Relation.{Rel}
 use Rattle.cf_lower_steps.specs.Lowering.{is_function}
-use Rattle.cf_lower_turns.specs.Texts.{Free}
+use Rattle.cf_lower_turns.specs.Texts.{Text, Texts, NoText, Free, TextsLaid, InTexts}
 use Rattle.cf_lower_program.specs.Alike.{Part, clear_of}
 
 -- a static object stands in the variable of its name
@@ -47,6 +48,21 @@ pub record OwnObject (F : Map) (names : Scope) (r : Name → Name) (name : Name)
   pub known : o < F.count
   pub shown : is_shown (F.stage o) ≡ true
 
+-- A literal of these bytes, which the source has by a number of the function `g` and the C by one of `f`, stands in the variable of its name.
+pub record LiteralThere (texts : Texts) (names : Scope) (r : Name → Name) (f g : Name) (j : ℕ) (b : List ℕ) : Type 0 where
+  pub text : Text
+  pub is : texts g j ≡ Some text
+  pub bytes : text.bytes ≡ b
+  pub shape : Shape
+  pub named : names (r (literal_name f j)) ≡ Some (meant.Variable text.block shape)
+
+-- Objects and literals stand in the memory: none is an argument's, and none has ended.
+pub record Standing (K : Fixed) (texts : Texts) (F : Map) (s : State) (m : Memory) : Type 0 where
+  pub rel : Rel K F s m
+  pub shown : (o : ℕ) → o < F.count → is_shown (F.stage o) ≡ true
+  pub laid : TextsLaid K texts m.next
+  pub literals : InTexts K texts F s m
+
 -- Each scalar of an object of this type is 0 or null of which no byte is in these parts.
 abbrev pub Clear : SourceType → List Part → ℕ → State → Type 0
 Clear t parts o s =
@@ -58,15 +74,34 @@ pub record Since (K : Fixed) (F : Map) (s : State) (m : Memory) (t : State) (n :
   pub rel : Rel K F t n
   pub next : n.next ≡ m.next
   pub elsewhere : (b : ℕ) → Free F b → n.block b ≡ m.block b
-  pub depth : t.frame.depth ≡ s.frame.depth
+  pub frame : t.frame ≡ s.frame
   pub literals : t.literals ≡ s.literals
   pub finished : t.finished ≡ s.finished
 
+-- A map with more objects, which are those of literals: objects stay where they are, and blocks of no literal that are free stay so.
+pub record Wider (texts : Texts) (F G : Map) : Type 0 where
+  pub count : F.count ≤ G.count
+  pub block : (o : ℕ) → o < F.count → G.block o ≡ F.block o
+  pub base : (o : ℕ) → o < F.count → G.base o ≡ F.base o
+  pub type : (o : ℕ) → o < F.count → G.type o ≡ F.type o
+  pub stage : (o : ℕ) → o < F.count → G.stage o ≡ F.stage o
+  pub free : (b : ℕ) → NoText texts b → Free F b → Free G b
+
+-- Nothing has changed but what objects hold, what is reached, and which literals have objects.
+pub record Later (K : Fixed) (texts : Texts) (F : Map) (s : State) (m : Memory) (G : Map) (t : State) (n : Memory) : Type 0 where
+  pub wider : Wider texts F G
+  pub standing : Standing K texts G t n
+  pub next : n.next ≡ m.next
+  pub elsewhere : (b : ℕ) → Free G b → n.block b ≡ m.block b
+  pub depth : t.frame.depth ≡ s.frame.depth
+  pub finished : t.finished ≡ s.finished
+
 -- and the C has fallen through
-pub record SetAs (K : Fixed) (F : Map) (s : State) (m : Memory) (t : State) (flow : c.Flow) : Type 0 where
+pub record SetAs (K : Fixed) (texts : Texts) (F : Map) (s : State) (m : Memory) (t : State) (flow : c.Flow) : Type 0 where
   pub after : c.State
   pub is : flow ≡ c.Falls after
-  pub since : Since K F s m t after.memory
+  pub map : Map
+  pub later : Later K texts F s m map t after.memory
 
 -- `exit` was not called
 abbrev pub NoExitFrom : {A : Type 0} → Ran (Did A) → Type 0

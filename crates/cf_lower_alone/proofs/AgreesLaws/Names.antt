@@ -99,7 +99,7 @@ differ-flat g (y ∷ ys) x d (inr h) = differ-flat g ys x (differ-right variable
 
 -- ---- names
 
-foreign-ends : (y : Name) → is_foreign y ≡ true → ends_as_file y ≡ false
+pub foreign-ends : (y : Name) → is_foreign y ≡ true → ends_as_file y ≡ false
 foreign-ends y e =
     let five =
     not (list_any (λ front. is_own_name front y) own_fronts) && not (is_helper y) && not (bytes_eq y (codes "__sti")) && not (is_library y) && not (is_main y) in

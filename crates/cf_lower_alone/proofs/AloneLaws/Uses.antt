@@ -71,7 +71,7 @@ or-right : (a b : Bool) → b ≡ true → (a || b) ≡ true
 or-right true b e = refl
 or-right false b e = e
 
-ends-longer : (n : Name) → ends_as_file (longer 1 n) ≡ true
+pub ends-longer : (n : Name) → ends_as_file (longer 1 n) ≡ true
 unfolding digits
 ends-longer [] = refl
 ends-longer (c ∷ n) =

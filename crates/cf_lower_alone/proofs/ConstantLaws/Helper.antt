@@ -18,6 +18,7 @@ use Rattle.cc_whole_mean.specs.Mean.{run_function, enter_helper, enter_function,
 use Rattle.cc_whole_mean.specs.Scope.{Scope}
 use Rattle.cf_lower_relate.specs.Map.{Fixed, Map}
 use Rattle.cf_lower_steps.specs.Flows.{Simulates}
+use Rattle.cf_lower_turns.specs.Texts.{Texts}
 use Rattle.cf_lower_settings.specs.Set.{SetAs}
 
 -- ---- what stands around its statements
@@ -39,21 +40,21 @@ shown-around k (Stops end trace) = refl
 abbrev behind_it : c.State → c.State
 behind_it s = in_memory (in_memory s s.memory) s.memory
 
-pub sim-around : {A : Type 0} (K : Fixed) (F : Map) (s : State) (m : Memory) (k : ℕ) (x : Ran (Did A)) (y : Ran c.Flow)
-    → Simulates (λ a t flow. SetAs K F s m t flow) x y → Simulates (λ a t flow. SetAs K F s m t flow) x (around k y)
-sim-around K F s m k (Went (Gives a t) w) y h = record {
+pub sim-around : {A : Type 0} (K : Fixed) (texts : Texts) (F : Map) (s : State) (m : Memory) (k : ℕ) (x : Ran (Did A)) (y : Ran c.Flow)
+    → Simulates (λ a t flow. SetAs K texts F s m t flow) x y → Simulates (λ a t flow. SetAs K texts F s m t flow) x (around k y)
+sim-around K texts F s m k (Went (Gives a t) w) y h = record {
   by = record {
     value = c.Falls (behind_it h.by.related.after);
     run = ap (around k) (h.by.run ∙ ap (λ f. Went f w) h.by.related.is);
-    related = record { after = behind_it h.by.related.after; is = refl; since = h.by.related.since };
+    related = record { after = behind_it h.by.related.after; is = refl; map = h.by.related.map; later = h.by.related.later };
   };
 }
-sim-around K F s m k (Went (Exits z t) w) y h = record { by = record { after = behind_it h.by.after; run = ap (around k) h.by.run } }
-sim-around K F s m k (Went Malformed w) y h = record { by = tt }
-sim-around K F s m k (Stops (Undefined act) trace) y h = record { by = subst (λ l. Begins trace l) (sym (shown-around k y)) h.by }
-sim-around K F s m k (Stops (Ended z) trace) y h = record { by = ap (around k) h.by }
-sim-around K F s m k (Stops Ticks trace) y h = record { by = ap (around k) h.by }
-sim-around K F s m k (Stops Depth trace) y h = record { by = ap (around k) h.by }
+sim-around K texts F s m k (Went (Exits z t) w) y h = record { by = record { after = behind_it h.by.after; run = ap (around k) h.by.run } }
+sim-around K texts F s m k (Went Malformed w) y h = record { by = tt }
+sim-around K texts F s m k (Stops (Undefined act) trace) y h = record { by = subst (λ l. Begins trace l) (sym (shown-around k y)) h.by }
+sim-around K texts F s m k (Stops (Ended z) trace) y h = record { by = ap (around k) h.by }
+sim-around K texts F s m k (Stops Ticks trace) y h = record { by = ap (around k) h.by }
+sim-around K texts F s m k (Stops Depth trace) y h = record { by = ap (around k) h.by }
 
 -- ---- the call
 

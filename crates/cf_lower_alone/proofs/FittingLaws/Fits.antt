@@ -264,7 +264,7 @@ module _ (fs : List PlainFunction) (xs : List PlainStatic) (low : Lowerable (fil
 
   -- ---- literals
 
-  literal-no-function : (f : Name) (j : ℕ) → list_any (bytes_eq (literal_name f j)) all_names ≡ false
+  pub literal-no-function : (f : Name) (j : ℕ) → list_any (bytes_eq (literal_name f j)) all_names ≡ false
   literal-no-function f j =
       let n : Name = literal_name f j in
       let none : (k : Function) → (a : Name) → k.prototype.name ≡ a → Foreign a → bytes_eq n k.prototype.name ≡ false =

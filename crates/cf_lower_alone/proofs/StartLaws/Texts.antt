@@ -46,7 +46,7 @@ use Rattle.cf_lower_alone.proofs.StartLaws.Statics.{P, V, variables-differ, stat
 
 -- ---- actions by other names
 
-text-back : (q : Name → Name) (j : ℕ) (b : List ℕ) (a : Action) → renamed_action q a ≡ plain.text j b → a ≡ plain.text j b
+pub text-back : (q : Name → Name) (j : ℕ) (b : List ℕ) (a : Action) → renamed_action q a ≡ plain.text j b → a ≡ plain.text j b
 text-back q j b (plain.static_object n t) e = absurd (cc)
 text-back q j b (plain.function n t) e = absurd (cc)
 text-back q j b (plain.function_pointer t) e = absurd (cc)
@@ -123,14 +123,14 @@ module _ (fs : List PlainFunction) (xs : List PlainStatic) (low : Lowerable (fil
 
   -- ---- one literal
 
-  record OfProgram (f : Name) (j : ℕ) (x : Text) : Type 0 where
-    one : PlainFunction
-    there : In one G
-    named : one.name ≡ f
-    acts : In (plain.text j x.bytes) (all_actions one.body)
-    variable : slice_get W x.block ≡ Some (shown_variable (the_literal fs xs low program A one j x.bytes))
-    text : is_text x.bytes ≡ true
-    short : length x.bytes ≤ 2 ^ 22
+  pub record OfProgram (f : Name) (j : ℕ) (x : Text) : Type 0 where
+    pub one : PlainFunction
+    pub there : In one G
+    pub named : one.name ≡ f
+    pub acts : In (plain.text j x.bytes) (all_actions one.body)
+    pub variable : slice_get W x.block ≡ Some (shown_variable (the_literal fs xs low program A one j x.bytes))
+    pub text : is_text x.bytes ≡ true
+    pub short : length x.bytes ≤ 2 ^ 22
 
   text-tested : (g : PlainFunction) (j : ℕ) (b : List ℕ) → In g G → In (plain.text j b) (all_actions g.body) → text_fits (plain.text j b) ≡ true
   text-tested g j b h k =
@@ -142,7 +142,7 @@ module _ (fs : List PlainFunction) (xs : List PlainStatic) (low : Lowerable (fil
       action-text fs xs low (plain.text j b)
       (action-of-function fs xs low f.one (plain.text j b) f.there (subst (λ a. In a (all_actions f.one.body)) (text-back q j b a.one a.is) a.there))
 
-  of-program : (f : Name) (j : ℕ) (x : Text) → (P fs xs low program A).texts f j ≡ Some x → OfProgram f j x
+  pub of-program : (f : Name) (j : ℕ) (x : Text) → (P fs xs low program A).texts f j ≡ Some x → OfProgram f j x
   of-program f j x e =
       let s = literal-stands fs xs low program A f j x e in
       let t = text-there G (names fs xs low program A (literal_name f j)) f j x e in
@@ -198,7 +198,7 @@ module _ (fs : List PlainFunction) (xs : List PlainStatic) (low : Lowerable (fil
   text-some [] e = absurd (true≢false (sym e))
   text-some (x ∷ b) e = let l : 0 < suc (length b) = omega arith in grind (arith, nat_tests, l)
 
-  laid : (x : Text) → is_text x.bytes ≡ true → length x.bytes ≤ 2 ^ 22 → LaidOut [] (text_type x)
+  pub laid : (x : Text) → is_text x.bytes ≡ true → length x.bytes ≤ 2 ^ 22 → LaidOut [] (text_type x)
   laid x e le = record {
     small = let l : length x.bytes * 1 ≤ 2 ^ 22 = omega (arith, le) in l;
     some = ap (λ b. b && true) (text-some x.bytes e);

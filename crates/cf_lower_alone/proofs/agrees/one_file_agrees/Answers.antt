@@ -7,16 +7,12 @@ use Rattle.cf_plain.specs.Plain.{PlainFile}
 use Rattle.cf_lower_program.specs.Agrees.{IsLowered}
 use Rattle.cf_lower_program.specs.Lowerable.{Lowerable}
 use Rattle.cf_lower_valid.proofs.Units.{unit-valid}
-use Rattle.cf_lower_alone.proofs.AgreesLaws.File.{one-agrees, one-agrees-alone}
+use Rattle.cf_lower_alone.proofs.AgreesLaws.File.{one-agrees}
 use Rattle.cf_lower_alone.proofs.agrees.one_file_agrees.Goals as goal
 
 unit-passes : (file : PlainFile) (unit : CUnit) → Lowerable file → IsLowered file unit → list_all valid_unit (unit ∷ []) ≡ true
 unit-passes file unit low is = all_of (valid_unit unit) true (unit-valid file unit low is) refl
 
 pub returns : goal.returns
-returns c = record {
-  constants = λ file unit program helpers low is links.
-      one-agrees file unit program helpers (c.programs_of_valid_units_are_valid.ensures (unit ∷ []) program (unit-passes file unit low is) links) low is links;
-  alone = λ file unit program low is links.
-      one-agrees-alone file unit program (c.programs_of_valid_units_are_valid.ensures (unit ∷ []) program (unit-passes file unit low is) links) low is links;
-}
+returns c = λ file unit program low is links.
+    one-agrees file unit program (c.programs_of_valid_units_are_valid.ensures (unit ∷ []) program (unit-passes file unit low is) links) low is links
