@@ -33,8 +33,8 @@ built-function f ok =
     record { plain_role = one.0; chain = two.0; body = (both main_ok (is_body f) two.1).1 }
 
 module _ (file : CoreFile) (built : is_built_file file ≡ true) where
-  rest-built : (is_none file.classes ≡ true) × (list_all is_own file.statics && list_all is_built_function file.functions ≡ true)
-  rest-built = both (is_none file.classes) (list_all is_own file.statics && list_all is_built_function file.functions) built
+  rest-built : (is_none file.classes ≡ true) × (list_all (is_own file.statics) file.statics && list_all is_built_function file.functions ≡ true)
+  rest-built = both (is_none file.classes) (list_all (is_own file.statics) file.statics && list_all is_built_function file.functions) built
 
   pub no-classes : is_none file.classes ≡ true
   no-classes = rest-built.0
@@ -42,12 +42,12 @@ module _ (file : CoreFile) (built : is_built_file file ≡ true) where
   pub built-functions : Each BuiltFunction file.functions
   built-functions =
       each-as (λ (f : Function). is_built_function f ≡ true) BuiltFunction file.functions built-function
-      (each-of is_built_function file.functions (both (list_all is_own file.statics) (list_all is_built_function file.functions) rest-built.1).1)
+      (each-of is_built_function file.functions (both (list_all (is_own file.statics) file.statics) (list_all is_built_function file.functions) rest-built.1).1)
 
-  pub built-statics : Each (λ (x : Static). is_built_static x ≡ true) file.statics
+  pub built-statics : Each (λ (x : Static). is_built_static file.statics x ≡ true) file.statics
   built-statics =
-      each-as (λ (x : Static). is_own x ≡ true) (λ (x : Static). is_built_static x ≡ true) file.statics (λ x ok. (both (is_built_static x) _ ok).0)
-      (each-of is_own file.statics (both (list_all is_own file.statics) (list_all is_built_function file.functions) rest-built.1).0)
+      each-as (λ (x : Static). is_own file.statics x ≡ true) (λ (x : Static). is_built_static file.statics x ≡ true) file.statics (λ x ok. (both (is_built_static file.statics x) _ ok).0)
+      (each-of (is_own file.statics) file.statics (both (list_all (is_own file.statics) file.statics) (list_all is_built_function file.functions) rest-built.1).0)
 
 -- any labels will do
 abbrev pub AnyLabels : List ℤ → Type 0
@@ -68,7 +68,7 @@ module _ (T : Action → Type 0) (U : Core → Type 0) (suits : Suits T AnyLabel
       (function-passes T AnyLabels U (registers_of es) 0 (width_of es) suits (length es) file.classes file.statics f built.body u.0 u.1
       (space-of 0 (length (parameters f.type) + length f.locals) es (omega arith)))
 
-  pub start-actions : (file : CoreFile) (x : Static) → is_built_static x ≡ true → StaticSuits file.statics x → Each T (all_actions (sequenced_start file.classes file.statics x))
+  pub start-actions : (file : CoreFile) (x : Static) → is_built_static file.statics x ≡ true → StaticSuits file.statics x → Each T (all_actions (sequenced_start file.classes file.statics x))
   start-actions file x built u =
       let es : List Core = nodes x.start in
       all-actions-pass T AnyLabels (registers_of es) (sequenced_start file.classes file.statics x) (length es)
@@ -84,5 +84,5 @@ module _ (T : Action → Type 0) (U : Core → Type 0) (suits : Suits T AnyLabel
       (each-both BuiltFunction FunctionSuits (λ (f : Function). Each T (all_actions (sequenced_body file.classes file.statics f))) file.functions (function-actions file)
       (built-functions file built) fs))
       (each-flat T (λ (x : PlainStatic). all_actions x.start) (sequenced_static file.classes file.statics) file.statics
-      (each-both (λ (x : Static). is_built_static x ≡ true) (StaticSuits file.statics) (λ (x : Static). Each T (all_actions (sequenced_start file.classes file.statics x))) file.statics
+      (each-both (λ (x : Static). is_built_static file.statics x ≡ true) (StaticSuits file.statics) (λ (x : Static). Each T (all_actions (sequenced_start file.classes file.statics x))) file.statics
       (start-actions file) (built-statics file built) xs))

@@ -1,5 +1,5 @@
 -- Functions and static objects: what is so of each of their nodes makes their plain statements pass.
-use Rattle.std.proofs.Common.{◌≡◌, ℕ, suc, ◌+◌, ◌*◌, ◌≤◌, Bool, true, false, not, if◌then◌else◌, List, [], ◌∷◌, length, reverse, refl, sym, subst, arith}
+use Rattle.std.proofs.Common.{◌≡◌, ℕ, suc, ◌+◌, ◌*◌, ◌≤◌, Bool, true, false, ◌&&◌, not, if◌then◌else◌, List, [], ◌∷◌, length, reverse, refl, sym, subst, arith}
 use Rattle.std.specs.Prelude.{ℤ}
 use Rattle.cf_base.proofs.Tests.{both}
 use Rattle.cf_core.specs.Types.{SourceType, parameters, result, is_class}
@@ -9,18 +9,18 @@ use Rattle.cf_core.specs.Joined.{is_nothing}
 use Rattle.cf_core.specs.Nodes.{nodes}
 use Rattle.cf_plain.specs.Plain.{Action, Plains, act, set, nothing, more}
 use Rattle.cf_plain.specs.Plain as plain
-use Rattle.cf_sequence.specs.Built.{is_body, is_statement, is_built_static}
+use Rattle.cf_sequence.specs.Built.{is_body, is_statement, declares_last, is_built_static}
 use Rattle.cf_sequence.specs.Made.{Local, added, declared, numbered}
 use Rattle.cf_sequence.specs.Expressions.{finished}
 use Rattle.cf_sequence.specs.Statements.{type_of_static, initialised}
 use Rattle.cf_sequence.specs.Sequenced.{inside, flowed_off, sequenced_body, sequenced_start}
 use Rattle.cf_sequence.proofs.Calling.{never}
-use Rattle.cf_sequence.proofs.Constants.{constant-start, constant-initial, something-constant, start-is}
+use Rattle.cf_sequence.proofs.Constants.{constant-object, constant-start, constant-element, something-constant, start-is}
 use Rattle.cf_sequence_lowered.proofs.Each.{Each, each-reversed}
 use Rattle.cf_sequence_lowered.proofs.Rooms.{Space}
 use Rattle.cf_sequence_lowered.proofs.Suits.{Suits, Own, Passed}
 use Rattle.cf_sequence_lowered.proofs.Temporaries.{fine-finished}
-use Rattle.cf_sequence_lowered.proofs.Initials.{initial-sound}
+use Rattle.cf_sequence_lowered.proofs.Initials.{element-sound}
 use Rattle.cf_sequence_lowered.proofs.Statements.{Works, works}
 use Rattle.cf_sequence_lowered.proofs.Walk.{AllPass, Fine}
 
@@ -46,9 +46,11 @@ module _ (T : Action → Type 0) (L : List ℤ → Type 0) (U : Core → Type 0)
   pub function-passes : (d : ℕ) (classes : List Class) (statics : List Static) (f : Function) → is_body f ≡ true → Each U (nodes f.body) → Each (Passed T L U p) (parameters f.type)
       → Space B p W d 0 (length (parameters f.type) + length f.locals) (nodes f.body) → AllPass T L B (sequenced_body classes statics f) d
   function-passes d classes statics f built u passed space =
-      let forms = both (not (is_class (result f.type))) (is_statement (length (parameters f.type)) f.body) built in
+      let stated = is_statement (length (parameters f.type)) f.body in
+      let forms = both (not (is_class (result f.type))) (stated && declares_last true f.body) built in
+      let stands = (both stated (declares_last true f.body) forms.1).0 in
       let scalar : is_class (result f.type) ≡ false = negated (is_class (result f.type)) forms.0 in
-      let w : Works T L U B p W suits f.body = works T L U B p W suits f.body (length (parameters f.type)) forms.1 u in
+      let w : Works T L U B p W suits f.body = works T L U B p W suits f.body (length (parameters f.type)) stands u in
       let locals : List Local = reverse (numbered 0 (parameters f.type)) in
       let owned : Each (Own T L U p) locals = each-reversed (Own T L U p) (numbered 0 (parameters f.type)) (own-parameters 0 (parameters f.type) passed) in
       let flowed : Plains = finished locals nothing in
@@ -60,21 +62,22 @@ module _ (T : Action → Type 0) (L : List ℤ → Type 0) (U : Core → Type 0)
       (Fine.pass (fine-finished T L U B p suits d (declared f.body) (Works.owns w)) (flowed_off f) ends)
 
   -- what sets a static object
-  pub start-passes : (d : ℕ) (classes : List Class) (statics : List Static) (x : Static) → is_built_static x ≡ true → Each U (nodes x.start)
+  pub start-passes : (d : ℕ) (classes : List Class) (statics : List Static) (x : Static) → is_built_static statics x ≡ true → Each U (nodes x.start)
       → T (plain.static_object x.name (type_of_static statics x.name)) → Space B p W d 0 0 (nodes x.start) → 0 + 1 ≤ B → AllPass T L B (sequenced_start classes statics x) d
   start-passes d classes statics x built u named space low =
       let t : SourceType = type_of_static statics x.name in
-      subst (λ ss. AllPass T L B ss d) (sym (start-is classes statics x built)) (by t named (is_nothing x.start) refl)
+      subst (λ ss. AllPass T L B ss d) (sym (start-is classes statics x (constant-object statics x built))) (by t named (is_nothing x.start) refl)
     where
       by : (t : SourceType) → T (plain.static_object x.name t) → (b : Bool) → is_nothing x.start ≡ b
           → AllPass T L B (if b then nothing else initialised classes t x.name x.start 0 nothing) d
       by t named true e = tt
       by t named false e =
-          let initial = constant-initial x.start (something-constant x.start (constant-start x built) e) in (
+          let named_as : SourceType = type_of_static statics x.name in
+          let element = constant-element named_as x.start (something-constant named_as x.start (constant-start statics x built) e) in (
             suits.neutral (plain.reach x.name) refl,
             (
               (omega arith, named),
-              Fine.pass (initial-sound T L U B p W suits classes x.start initial u d t 0 0 space) (more (act (plain.finish_static x.name)) nothing)
+              Fine.pass (element-sound T L U B p W suits classes named_as x.start element u d t 0 0 space) (more (act (plain.finish_static x.name)) nothing)
                   (suits.neutral (plain.finish_static x.name) refl, tt),
             ),
           )

@@ -15,12 +15,12 @@ use Rattle.cf_core.specs.Valid as valid
 use Rattle.cf_lower_layout.specs.Sorts.{sort_of}
 use Rattle.cf_plain.specs.Plain.{Register, Plains, PlainFunction, PlainStatic, act, set, branch, nothing, more}
 use Rattle.cf_plain.specs.Plain as plain
-use Rattle.cf_sequence.specs.Built.{is_built_file, is_built_static, is_constant_value, is_filling}
+use Rattle.cf_sequence.specs.Built.{is_built_file, is_built_static, is_constant_value, is_constant_initial, is_constant_list, is_constant_start, is_filling}
 use Rattle.cf_sequence.specs.Made.{Temporary, temporaries, width}
 use Rattle.cf_sequence.specs.Expressions.{Full, Destination, destination, value, used, flags, ended, settled, builds}
 use Rattle.cf_sequence.specs.Statements.{type_of_static, started, initialised}
 use Rattle.cf_sequence.specs.Sequenced.{sequenced_start, sequenced_function, sequenced_static, sequenced_file}
-use Rattle.cf_sequence.proofs.Calling.{never}
+use Rattle.cf_sequence.proofs.Calling.{never, or-else}
 use Rattle.cf_sequence.proofs.Constants.{constant-start, something-constant, constant-object, start-is}
 use Rattle.cf_sequence.proofs.Filling.{fill, started-is}
 use Rattle.cf_lower.specs.Constants.{Known, unknown, a_number, null, at, a_function, know, nothing_known, known_by, holds_truth, truth_known, inverted, decayed, sum, pointer_known, converted_known}
@@ -241,6 +241,11 @@ plain-start classes t e is rest =
 
 -- ---- what sets a static object
 
+-- it is not known of a list
+no-list : {A : Type 0} (f : Name) (t : SourceType) (e : Core) (b : Bool) → is_constant_list t e ≡ true → is_filling e || (all_known f e && b) ≡ true → A
+no-list f t (core.list es last) b is ok = never ok
+no-list f t e b is ok = never is
+
 module _ (x : Static) (t : SourceType) (good : start_is_known t x ≡ true) where
   abbrev owner : Name
   owner = owner_name x
@@ -275,12 +280,12 @@ module _ (x : Static) (t : SourceType) (good : start_is_known t x ≡ true) wher
       ∙ Steps.goes (Finds.steps p) (more (act (plain.first 0 m)) last)
       ∙ first-known m (Finds.after p) (core_known owner x.start) (Finds.below p 0 (omega arith)) (Finds.value p) (known-is owner x.start is ok) fits
 
-  start-known : (classes : List Class) → is_built_static x ≡ true → is_nothing x.start ≡ false → starts_known (started classes t x.start 0 0 last) owner placed ≡ true
+  start-known : (classes : List Class) → is_constant_start t x.start ≡ true → is_nothing x.start ≡ false → starts_known (started classes t x.start 0 0 last) owner placed ≡ true
   start-known classes built something =
-      let initial = something-constant x.start (constant-start x built) something in
+      let element = something-constant t x.start built something in
       let rest : is_filling x.start || (all_known owner x.start && is_value_of (sort_of t) (core_known owner x.start)) ≡ true =
       subst (λ b. b || (is_filling x.start || (all_known owner x.start && is_value_of (sort_of t) (core_known owner x.start))) ≡ true) something good in
-      by (is_filling x.start) refl initial rest
+      or-else (is_constant_initial x.start) (is_constant_list t x.start) element (λ initial. by (is_filling x.start) refl initial rest) (λ is. no-list owner t x.start (is_value_of (sort_of t) (core_known owner x.start)) is rest)
     where
       by : (b : Bool) → is_filling x.start ≡ b → b || is_constant_value x.start ≡ true
           → b || (all_known owner x.start && is_value_of (sort_of t) (core_known owner x.start)) ≡ true → starts_known (started classes t x.start 0 0 last) owner placed ≡ true
@@ -288,7 +293,7 @@ module _ (x : Static) (t : SourceType) (good : start_is_known t x ≡ true) wher
       by false other is ok =
           let p = both (all_known owner x.start) (is_value_of (sort_of t) (core_known owner x.start)) ok in value-known classes is p.0 p.1
 
-  initial-known : (classes : List Class) → is_built_static x ≡ true → (b : Bool) → is_nothing x.start ≡ b
+  initial-known : (classes : List Class) → is_constant_start t x.start ≡ true → (b : Bool) → is_nothing x.start ≡ b
       → starts_known (if b then nothing else initialised classes t x.name x.start 0 nothing) owner nothing_known ≡ true
   initial-known classes built true e = refl
   initial-known classes built false e = start-known classes built e
@@ -319,7 +324,7 @@ module _ (file : CoreFile) (valid_one : valid.valid_file file ≡ true) (built :
       (λ x ok. (both _ (valid.owner_fits file x.owner) ok).1) (each-of (valid.static_fits file) file.statics (both _ (list_all (valid.static_fits file) file.statics) valid_one).1)
 
   record Start (x : Static) : Type 0 where
-    form : is_built_static x ≡ true
+    form : is_built_static file.statics x ≡ true
     owned : valid.owner_fits file x.owner ≡ true
 
   abbrev plain_known : PlainStatic → Bool
@@ -331,11 +336,11 @@ module _ (file : CoreFile) (valid_one : valid.valid_file file ≡ true) (built :
       let parts = both (start_is_known t x) (owner_is_plain x) ok in
       let ss : Plains = sequenced_start file.classes file.statics x in
       let known : starts_known ss (owner_name x) nothing_known ≡ true =
-      ap (λ ss. starts_known ss (owner_name x) nothing_known) (start-is file.classes file.statics x (Start.form start))
-      ∙ initial-known x t parts.0 file.classes (Start.form start) (is_nothing x.start) refl in
+      ap (λ ss. starts_known ss (owner_name x) nothing_known) (start-is file.classes file.statics x (constant-object file.statics x (Start.form start)))
+      ∙ initial-known x t parts.0 file.classes (constant-start file.statics x (Start.form start)) (is_nothing x.start) refl in
       let there : Bool = owner_there (map (sequenced_function file.classes file.statics) file.functions) (sequenced_static file.classes file.statics x) in
       all_of (x.is_constant && starts_known ss (owner_name x) nothing_known) there
-      (all_of x.is_constant (starts_known ss (owner_name x) nothing_known) (constant-object x (Start.form start)) known)
+      (all_of x.is_constant (starts_known ss (owner_name x) nothing_known) (constant-object file.statics x (Start.form start)) known)
       (owner-there file.classes file.statics file.functions x parts.1 x.owner refl (owner-named file x.owner (Start.owned start)))
 
   pub statics-known : core_statics_known file ≡ true → statics_known (sequenced_file file) ≡ true
@@ -344,6 +349,6 @@ module _ (file : CoreFile) (valid_one : valid.valid_file file ≡ true) (built :
       (each-mapped (λ (x : PlainStatic). plain_known x ≡ true) (sequenced_static file.classes file.statics) file.statics
       (each-both Start (λ (x : Static). start_is_known (type_of_static file.statics x.name) x && owner_is_plain x ≡ true)
       (λ (x : Static). plain_known (sequenced_static file.classes file.statics x) ≡ true) file.statics static-known
-      (each-both (λ (x : Static). is_built_static x ≡ true) (λ (x : Static). valid.owner_fits file x.owner ≡ true) Start file.statics (λ x b o. record { form = b; owned = o })
+      (each-both (λ (x : Static). is_built_static file.statics x ≡ true) (λ (x : Static). valid.owner_fits file x.owner ≡ true) Start file.statics (λ x b o. record { form = b; owned = o })
       (built-statics file built) owners-fit)
       (each-of (λ (x : Static). start_is_known (type_of_static file.statics x.name) x && owner_is_plain x) file.statics ok)))

@@ -163,7 +163,7 @@ module _ (n : Name) where
         let d = functions-once fs u.1 in
         omega arith
 
-    statics-once : (xs : List Static) → Each (λ (x : Static). is_built_static x ≡ true) xs
+    statics-once : (xs : List Static) → Each (λ (x : Static). is_built_static file.statics x ≡ true) xs
         → occurs n (map (λ (v : CVariable). v.name) (flat_map start_literals (map (sequenced_static file.classes file.statics) xs)))
         ≤ occurs n (flat_map (λ (x : Static). flat_map (literal_of (owner_name x)) (nodes x.start)) xs)
     statics-once [] u = omega arith

@@ -130,7 +130,7 @@ module _ (file : CoreFile) (built : is_built_file file ≡ true) where
 
     statics-told : Each StartNamed file.statics → Each (λ (x : Static). Each (ToldStart x) (all_actions (sequenced_start file.classes file.statics x))) file.statics
     statics-told u =
-        each-both (λ (x : Static). is_built_static x ≡ true) StartNamed (λ (x : Static). Each (ToldStart x) (all_actions (sequenced_start file.classes file.statics x))) file.statics
+        each-both (λ (x : Static). is_built_static file.statics x ≡ true) StartNamed (λ (x : Static). Each (ToldStart x) (all_actions (sequenced_start file.classes file.statics x))) file.statics
         (λ x b n.
         start-actions (ToldStart x) (NodeStart x) (suits P Q file.classes (owner_name x) x.is_shared (x.is_local || not x.is_shared)) file x b (n.0, ((n.1, tt), tt)))
         (built-statics file built) u

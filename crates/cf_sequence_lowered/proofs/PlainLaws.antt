@@ -193,7 +193,7 @@ pub actions-lowered : (file : CoreFile) → is_built_file file ≡ true → oper
 actions-lowered file built ok =
     all-of has_promoted (flat_map (λ (x : PlainStatic). all_actions x.start) (map (sequenced_static file.classes file.statics) file.statics))
     (each-flat Promoted (λ (x : PlainStatic). all_actions x.start) (sequenced_static file.classes file.statics) file.statics
-    (each-both (λ (x : Static). is_built_static x ≡ true) (StaticSuits Promoted Operand promoted-suit file.statics)
+    (each-both (λ (x : Static). is_built_static file.statics x ≡ true) (StaticSuits Promoted Operand promoted-suit file.statics)
     (λ (x : Static). Each Promoted (all_actions (sequenced_start file.classes file.statics x))) file.statics (start-actions Promoted Operand promoted-suit file) (built-statics file built)
     (each-as (λ (x : Static). list_all operand_is_promoted (nodes x.start) ≡ true) (StaticSuits Promoted Operand promoted-suit file.statics) file.statics
     (λ x ok. (each-of operand_is_promoted (nodes x.start) ok, refl)) (each-of (λ (x : Static). list_all operand_is_promoted (nodes x.start)) file.statics ok))))

@@ -1,5 +1,5 @@
 -- Statements: what is so of each of their nodes makes their plain statements pass.
-use Rattle.std.proofs.Common.{◌≡◌, ℕ, suc, ◌+◌, ◌<◌, ◌≤◌, Bool, true, false, ◌&&◌, ◌||◌, not, nat_le, if◌then◌else◌, List, [], ◌∷◌, ◌++◌, length, reverse, refl, sym, ap, ◌∙◌, subst, arith}
+use Rattle.std.proofs.Common.{◌≡◌, ℕ, suc, ◌+◌, ◌<◌, ◌≤◌, Bool, true, false, ◌&&◌, ◌||◌, nat_le, if◌then◌else◌, List, [], ◌∷◌, ◌++◌, length, reverse, refl, sym, ap, ◌∙◌, subst, arith}
 use Rattle.std.specs.Prelude.{ℤ, Some, None}
 use Rattle.cf_base.proofs.Tests.{both}
 use Rattle.cf_core.specs.declared.operators.LoopForm.{LoopForm}
@@ -11,7 +11,7 @@ use Rattle.cf_core.specs.Joined.{is_nothing}
 use Rattle.cf_core.specs.Nodes.{nodes, nodes_all, nodes_maybe}
 use Rattle.cf_plain.specs.Plain.{Register, Action, Plains, act, set, branch, loop, switch, case_label, default_label, leave, continue, give, nothing, more}
 use Rattle.cf_plain.specs.Plain as plain
-use Rattle.cf_sequence.specs.Built.{is_value, is_start, is_condition, is_element, is_held, declares_here, is_statement, is_inner_or, are_cases, are_statements, next_local}
+use Rattle.cf_sequence.specs.Built.{is_value, is_start, is_condition, is_element, is_held, is_statement, is_statement_or, are_cases, are_statements, next_local}
 use Rattle.cf_sequence.specs.Made.{Local, added, width, width_maybe, declared, declared_all}
 use Rattle.cf_sequence.specs.Expressions.{value, whole, finished, used}
 use Rattle.cf_sequence.specs.Statements.{Inside, declares, opened, in_loop, in_switch, held, stepped, started, made, passing, passes_local, passed, looping, statement, statement_or, statements}
@@ -280,14 +280,17 @@ module _ (T : Action → Type 0) (L : List ℤ → Type 0) (U : Core → Type 0)
   branch-fine f q a o around is u first other d k r =
       let inside = space-parts B p W d 0 k (core.branch q a o) (nodes q ++ nodes a ++ nodes_maybe o) refl r in
       let begin = space-left B p W d 0 k (nodes q ++ nodes a) (nodes_maybe o) inside in
-      let left = statement f a (k + width q) nothing in
+      let ends : Plains = finished (declared a) nothing in
+      let left = statement f a (k + width q) ends in
       let right = statement_or f o (k + width q + width a) nothing in
       let two_of = added-two (nodes q) (nodes a) in
       let at : k + length (added (nodes q ++ nodes a)) ≡ k + width q + width a = omega arith in
       let last = subst (λ n. Space B p W d 0 n (nodes_maybe o)) at (space-right B p W d 0 k (nodes q ++ nodes a) (nodes_maybe o) inside) in
       fine-value d f q is u k (space-left B p W d 0 k (nodes q) (nodes a) begin) (λ n rest. more (set n (plain.truth n)) rest) (λ n rest. more (branch n left right) rest) (fine-truth d)
       (λ n low.
-      fine-branch T L B d n left right (Fine.pass (first.code f around d (k + width q) (space-right B p W d 0 k (nodes q) (nodes a) begin)) nothing tt)
+      fine-branch T L B d n left right
+      (Fine.pass (first.code f around d (k + width q) (space-right B p W d 0 k (nodes q) (nodes a) begin)) ends
+      (Fine.pass (fine-finished T L U B p suits d (declared a) first.owns) nothing tt))
       (Fine.pass (other.code f around d (k + width q + width a) last) nothing tt))
 
   -- a way out, behind the ends of locals
@@ -326,10 +329,10 @@ module _ (T : Action → Type 0) (L : List ℤ → Type 0) (U : Core → Type 0)
               (StartsWell.code (starts-well T L U B p W suits f.classes i t e start u.1) d k (space-parts B p W d 0 k (core.declare i t e) (nodes e) refl r));
         }
     works (core.branch q a o) m ok u =
-        let forms = both (is_value q) ((not (declares_here a) && is_statement m a) && is_inner_or m o) ok in
-        let arms = both (not (declares_here a) && is_statement m a) (is_inner_or m o) forms.1 in
+        let forms = both (is_value q) (is_statement m a && is_statement_or m o) ok in
+        let arms = both (is_statement m a) (is_statement_or m o) forms.1 in
         let first = each-left U (nodes q ++ nodes a) (nodes_maybe o) u.1 in
-        let first_works = works a m (both (not (declares_here a)) (is_statement m a) arms.0).1 (each-right U (nodes q) (nodes a) first) in
+        let first_works = works a m arms.0 (each-right U (nodes q) (nodes a) first) in
         let other_works = work-or o m arms.1 (each-right U (nodes q ++ nodes a) (nodes_maybe o) u.1) in
         record { owns = tt; code = λ f around d k r. branch-fine f q a o around forms.0 (each-left U (nodes q) (nodes a) first) first_works other_works d k r }
     works (core.loop how q e s) m ok u =
@@ -354,9 +357,13 @@ module _ (T : Action → Type 0) (L : List ℤ → Type 0) (U : Core → Type 0)
         record { owns = tt; code = λ f a d k r. returned-fine f e a ok u.1 d k (space-parts B p W d 0 k (core.give (given e)) (nodes e) refl r) }
     works s m ok u = never ok
 
-    work-or : (o : MaybeCore) (m : ℕ) → is_inner_or m o ≡ true → Each U (nodes_maybe o) → MaybeWorks o
+    work-or : (o : MaybeCore) (m : ℕ) → is_statement_or m o ≡ true → Each U (nodes_maybe o) → MaybeWorks o
     work-or absent m ok u = record { code = λ f a d k r. fine-none T L B d }
-    work-or (given s) m ok u = let one = works s m (both (not (declares_here s)) (is_statement m s) ok).1 u in record { code = one.code }
+    work-or (given s) m ok u =
+        let one = works s m ok u in
+        record {
+          code = λ f a d k r. fine-then T L B d (statement f s k) (finished (declared s)) (one.code f a d k r) (fine-finished T L U B p suits d (declared s) one.owns);
+        }
 
     work-all : (es : Cores) (m : ℕ) → are_statements m es ≡ true → Each U (nodes_all es) → AllWork es
     work-all none m ok u = record { owns = tt; code = λ f a d k r. fine-none T L B d }

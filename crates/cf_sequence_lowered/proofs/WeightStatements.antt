@@ -12,16 +12,16 @@ use Rattle.cf_core.specs.Joined.{is_nothing}
 use Rattle.cf_core.specs.Nodes.{nodes, nodes_all, nodes_maybe}
 use Rattle.cf_plain.specs.Plain.{Register, Action, Plains, act, set, branch, loop, switch, case_label, default_label, leave, continue, give, nothing, more}
 use Rattle.cf_plain.specs.Plain as plain
-use Rattle.cf_sequence.specs.Built.{is_value, is_start, is_condition, is_element, is_held, declares_here, is_statement, is_inner_or, are_cases, are_statements, next_local, is_body, is_built_static}
+use Rattle.cf_sequence.specs.Built.{is_value, is_start, is_condition, is_element, is_held, is_statement, is_statement_or, declares_last, are_cases, are_statements, next_local, is_body, is_built_static}
 use Rattle.cf_sequence.specs.Made.{Local, width, width_maybe, declared, declared_all, numbered}
 use Rattle.cf_sequence.specs.Expressions.{value, whole, finished, used}
 use Rattle.cf_sequence.specs.Statements.{Inside, declares, opened, in_loop, in_switch, held, stepped, started, made, passing, passes_local, passed, looping, statement, statement_or, statements, type_of_static, initialised}
 use Rattle.cf_sequence.specs.Sequenced.{inside, flowed_off, sequenced_body, sequenced_start}
 use Rattle.cf_sequence.proofs.Calling.{never, or-else}
-use Rattle.cf_sequence.proofs.Constants.{constant-start, constant-initial, something-constant, start-is}
+use Rattle.cf_sequence.proofs.Constants.{constant-object, constant-start, constant-element, something-constant, start-is}
 use Rattle.cf_sequence.proofs.Fulls.{nothing-is}
 use Rattle.cf_sequence.proofs.Labels.{passing-past}
-use Rattle.cf_sequence_lowered.proofs.Weights.{mass, nodes_weight, weight-two, Light, light-none, light-then, light-more, light-by, light-set, light-act, light-first, light-last, light-finished, light-whole, light-element, light-held, light-initial}
+use Rattle.cf_sequence_lowered.proofs.Weights.{mass, nodes_weight, weight-two, Light, light-none, light-then, light-more, light-by, light-set, light-act, light-first, light-last, light-finished, light-whole, light-element, light-held}
 
 negated : (b : Bool) → not b ≡ true → b ≡ false
 negated true e = never e
@@ -116,9 +116,11 @@ module _ (g : ℕ → ℕ) where
 
   light-branch : (q a : Core) (o : MaybeCore) → is_value q ≡ true → Weighs a → WeighsMaybe o → Weighs (core.branch q a o)
   light-branch q a o is one other f scalar k =
-      let left = statement f a (k + width q) nothing in
+      let ends : Plains = finished (declared a) nothing in
+      let left = statement f a (k + width q) ends in
       let right = statement_or f o (k + width q + width a) nothing in
-      let x = Light.light (one f scalar (k + width q)) nothing in
+      let x = Light.light (one f scalar (k + width q)) ends in
+      let z = Light.light (light-finished g (declared a)) nothing in
       let y = Light.light (other f scalar (k + width q + width a)) nothing in
       let two = weight-two g (nodes q) (nodes a) in
       let all = weight-two g (nodes q ++ nodes a) (nodes_maybe o) in
@@ -185,9 +187,9 @@ module _ (g : ℕ → ℕ) where
         light-more g (nodes_weight g (nodes_all es)) (nodes_weight g (nodes (core.sequence es))) (statement f (core.sequence es) k) (omega arith) (light-all es m ok f scalar k)
     light-statement (core.declare i t e) m ok = light-declare i t e (both (nat_le m i) (is_element t e || is_held i e) ok).1
     light-statement (core.branch q a o) m ok =
-        let forms = both (is_value q) ((not (declares_here a) && is_statement m a) && is_inner_or m o) ok in
-        let arms = both (not (declares_here a) && is_statement m a) (is_inner_or m o) forms.1 in
-        light-branch q a o forms.0 (light-statement a m (both (not (declares_here a)) (is_statement m a) arms.0).1) (light-or o m arms.1)
+        let forms = both (is_value q) (is_statement m a && is_statement_or m o) ok in
+        let arms = both (is_statement m a) (is_statement_or m o) forms.1 in
+        light-branch q a o forms.0 (light-statement a m arms.0) (light-or o m arms.1)
     light-statement (core.loop how q e s) m ok =
         let forms = both (is_condition q) (is_condition e && is_statement m s) ok in
         let rest = both (is_condition e) (is_statement m s) forms.1 in
@@ -200,9 +202,10 @@ module _ (g : ℕ → ℕ) where
     light-statement (core.give (given e)) m ok = light-returned e ok
     light-statement s m ok = never ok
 
-    light-or : (o : MaybeCore) (m : ℕ) → is_inner_or m o ≡ true → WeighsMaybe o
+    light-or : (o : MaybeCore) (m : ℕ) → is_statement_or m o ≡ true → WeighsMaybe o
     light-or absent m ok = λ f scalar k. light-none g
-    light-or (given s) m ok = light-statement s m (both (not (declares_here s)) (is_statement m s) ok).1
+    light-or (given s) m ok = λ f scalar k.
+        light-last g (nodes_weight g (nodes s)) (statement f s k) (finished (declared s)) (light-statement s m ok f scalar k) (light-finished g (declared s))
 
     light-all : (es : Cores) (m : ℕ) → are_statements m es ≡ true → WeighAll es
     light-all none m ok = λ f scalar k. light-none g
@@ -234,22 +237,25 @@ module _ (g : ℕ → ℕ) where
 
   pub light-body : (classes : List Class) (statics : List Static) (f : Function) → is_body f ≡ true → mass g (sequenced_body classes statics f) ≤ nodes_weight g (nodes f.body)
   light-body classes statics f built =
-      let forms = both (not (is_class (result f.type))) (is_statement (length (parameters f.type)) f.body) built in
+      let stated = is_statement (length (parameters f.type)) f.body in
+      let forms = both (not (is_class (result f.type))) (stated && declares_last true f.body) built in
+      let stands = (both stated (declares_last true f.body) forms.1).0 in
       let scalar : is_class (result f.type) ≡ false = negated (is_class (result f.type)) forms.0 in
       let flowed : Plains = finished (reverse (numbered 0 (parameters f.type))) nothing in
-      let a = Light.light (light-statement f.body (length (parameters f.type)) forms.1 (inside classes statics f) scalar (length (parameters f.type) + length f.locals))
+      let a = Light.light (light-statement f.body (length (parameters f.type)) stands (inside classes statics f) scalar (length (parameters f.type) + length f.locals))
       (finished (declared f.body) (flowed_off f)) in
       let b = Light.light (light-finished g (declared f.body)) (flowed_off f) in
       let c : mass g (flowed_off f) ≤ 0 =
       subst (λ b. mass g (if b then nothing else flowed) ≤ 0) (sym scalar) (let d = Light.light (light-finished g (reverse (numbered 0 (parameters f.type)))) nothing in omega arith) in
       omega arith
 
-  pub light-static : (classes : List Class) (statics : List Static) (x : Static) → is_built_static x ≡ true → mass g (sequenced_start classes statics x) ≤ nodes_weight g (nodes x.start)
-  light-static classes statics x built = subst (λ ss. mass g ss ≤ nodes_weight g (nodes x.start)) (sym (start-is classes statics x built)) (by (type_of_static statics x.name) (is_nothing x.start) refl)
+  pub light-static : (classes : List Class) (statics : List Static) (x : Static) → is_built_static statics x ≡ true → mass g (sequenced_start classes statics x) ≤ nodes_weight g (nodes x.start)
+  light-static classes statics x built = subst (λ ss. mass g ss ≤ nodes_weight g (nodes x.start)) (sym (start-is classes statics x (constant-object statics x built))) (by (type_of_static statics x.name) (is_nothing x.start) refl)
     where
       by : (t : SourceType) (b : Bool) → is_nothing x.start ≡ b → mass g (if b then nothing else initialised classes t x.name x.start 0 nothing) ≤ nodes_weight g (nodes x.start)
       by t true e = omega arith
       by t false e =
-          let initial = constant-initial x.start (something-constant x.start (constant-start x built) e) in
-          let a = Light.light (light-initial g classes x.start initial t 0 0) (more (act (plain.finish_static x.name)) nothing) in
+          let named_as : SourceType = type_of_static statics x.name in
+          let element = constant-element named_as x.start (something-constant named_as x.start (constant-start statics x built) e) in
+          let a = Light.light (light-element g classes named_as x.start element t 0 0) (more (act (plain.finish_static x.name)) nothing) in
           omega arith
