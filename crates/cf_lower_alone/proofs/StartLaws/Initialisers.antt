@@ -34,7 +34,7 @@ use Rattle.cf_lower_program.specs.Starts.{is_text}
 use Rattle.cf_lower_program.specs.Lowerable.{Lowerable}
 use Rattle.cf_lower_settings.specs.Set.{LiteralThere}
 use Rattle.cc_whole_sections.specs.Sections.{In}
-use Rattle.cc_whole_sections.proofs.Names.{in-left, in-right}
+use Rattle.cc_whole_sections.proofs.Names.{in-right}
 use Rattle.cf_lower_valid.proofs.Inner.{mapped-in}
 use Rattle.cf_lower_valid.proofs.Others.{mapped-from}
 use Rattle.cf_lower_valid.proofs.Own.{in-flat}
