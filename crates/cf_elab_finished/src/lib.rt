@@ -6,6 +6,7 @@
 
 mod finished;
 mod laws;
+mod looks;
 
 pub use finished::core_of;
 pub use laws::files_have_one_core;

@@ -1,9 +1,9 @@
 //! Files (17).
 
-ghost use Rattle.std.specs.Prelude.{◌≡◌, IfOk, None};
+ghost use Rattle.std.specs.Prelude.{◌≡◌, IfOk};
 ghost use Rattle.cf_elab.specs.Built as built;
-ghost use Rattle.cf_elab.specs.File as file;
 ghost use Rattle.cf_elab_unit.specs.Unit.First.{IsFirst, EndsAs};
+ghost use Rattle.cf_elab_unit.specs.Unit.Shut as shut;
 
 use crate::unit::items::whole;
 use cf_base::{Broken, Rule};
@@ -35,8 +35,8 @@ pub fn elab(alloc: Global, unit: &Unit) -> Result<Env, Stop>
 /// The same of a file whose forms are all built.
 #[tactic(auto, using(crate::proofs::UnitLaws::FileRows::end_laws))]
 fn end_of(alloc: Global, unit: &Unit) -> Result<Env, Stop>
-    requires { built.not_built unit.now ≡ None }
-    ensures first { IsFirst (file.elaboration built.built_so_far unit.now) result }
+    requires { shut.AreBuilt unit.now.items }
+    ensures first { IsFirst (shut.elaboration unit.now) result }
     ensures ends { IfOk result (λ end. EndsAs unit.now end) }
 {
     let defines = defined_names(alloc, unit)?;

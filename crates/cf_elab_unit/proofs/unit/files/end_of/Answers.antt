@@ -3,11 +3,8 @@ use Rattle.std.proofs.lemmas.Result.{err_from_is_err_and}
 use Rattle.cf_unit.specs.declared.file.Item.{Item}
 use Rattle.cf_elab_env.specs.Answered.{Stops}
 use Rattle.cf_elab_unit.specs.Unit.Shut as shut
-use Rattle.cf_elab_unit.proofs.UnitLaws.FileRows.{all_built, core_is, ends_is, stop_is}
+use Rattle.cf_elab_unit.proofs.UnitLaws.FileRows.{core_is, ends_is, stop_is}
 use Rattle.cf_elab_unit.proofs.unit.files.end_of.Goals as goal
-
-pub whole-requires : goal.whole-requires
-whole-requires c = rw c.as_slice.ensures (all_built c.args.unit.now c.requires)
 
 pub returns-in_err-whole-clause-first : goal.returns-in_err-whole-clause-first
 returns-in_err-whole-clause-first c =
