@@ -145,7 +145,7 @@ module _ (P : Program) (function : Name → ℕ) (signature : Name → SourceTyp
     reach-done : (name : Name) → Q [] (acts (calls again) P regs (plain.reach name) s w)
     reach-done name = go (static_number P name)
       where
-        go : (x : Option ℕ) → Q [] (((some_or x malformed >>= (λ o. gives (root o))) >> doing (changed (λ s. record s { reached = name ∷ s.reached }))) s w)
+        go : (x : Option ℕ) → Q [] (((some_or x malformed >>= (λ o. gives (root o))) >>= (λ p. changed (λ s. record s { reached = name ∷ s.reached }) >> gives (source.At p))) s w)
         go None = wrong []
         go (Some o) = record { by = (refl, record { after = u; runs = λ rest w. refl; since = since-reached K F s u.memory (name ∷ s.reached) rel }) }
 
@@ -158,10 +158,10 @@ module _ (P : Program) (function : Name → ℕ) (signature : Name → SourceTyp
         go : (x : Option ℕ)
             → Q []
             (((some_or x malformed >>= (λ o. gives (root o)))
-            >>= (λ p. doing (when (has_destructor P.classes (static_type P name)) (changed (λ s. record s { finished = p.object ∷ s.finished })) done))) s w)
+            >>= (λ p. when (has_destructor P.classes (static_type P name)) (changed (λ s. record s { finished = p.object ∷ s.finished })) done >> gives (source.At p))) s w)
         go None = wrong []
         go (Some o) =
-            subst (λ b. Q [] (doing (when b (changed (λ s. record s { finished = o ∷ s.finished })) done) s w)) (sym destructor) (record { by = (refl, nothing-done) })
+            subst (λ b. Q [] ((when b (changed (λ s. record s { finished = o ∷ s.finished })) done >> gives (source.At (root o))) s w)) (sym destructor) (record { by = (refl, nothing-done) })
 
     -- a number goes to a static scalar
     first-done : (i j : Register) (x y : Known) → fits_first x y ≡ true → ((v : source.Value) → regs i ≡ Some v → KnownAs P F names there q r x v)

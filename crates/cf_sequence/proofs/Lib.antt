@@ -39,6 +39,7 @@ pub mod SameTypes
 pub mod Constants
 pub mod Settings
 pub mod LastingStatics
+pub mod StaticReferences
 pub mod SameStatics
 pub mod JoinedObjects
 pub mod Renamed
@@ -52,3 +53,4 @@ pub mod Temporaries
 pub mod Whole
 mod ScalarRows
 mod StaticListRows
+mod StaticReferenceRows

@@ -242,9 +242,8 @@ pub fn value(unit: &CoreUnit, e: &Core, full: Full, n: u32, w: &mut Writing) -> 
             operand,
             ..
         } => match holder {
-            Holder::NoTemporary | Holder::StaticTemporary(_) => {
-                value(unit, operand.get(), full, n, w)
-            }
+            Holder::NoTemporary => value(unit, operand.get(), full, n, w),
+            Holder::StaticTemporary(name) => static_held(unit, operand.get(), name, full, n, w),
             Holder::LocalTemporary { local, ty } => {
                 held(unit, operand.get(), *local, *ty, full, n, w)
             }
@@ -300,6 +299,30 @@ fn held(
     value(unit, e, full, first, w)?;
     w.act(Action::First {
         place: object,
+        value: first,
+    })
+}
+
+/// Writes the temporary of a static reference, which is the static object of this name, and its place into this register (8.4.3).
+#[cycle(values)]
+#[tactic(auto, unfolding(crate::specs::Pieces::static_held))]
+fn static_held(
+    unit: &CoreUnit,
+    e: &Core,
+    name: &Name,
+    full: Full,
+    n: u32,
+    w: &mut Writing,
+) -> Result<(), Memory>
+    requires { are_known (tables_of unit.now) e.now ≡ true }
+    ensures { OnOk result (w.new ≡ spec.static_held name.now (piece unit.now.types e.now) full n w.old) }
+{
+    let first = behind(n)?;
+    value(unit, e, full, first, w)?;
+    let name = copied(w.alloc, name)?;
+    w.set(n, Action::FinishStatic { name })?;
+    w.act(Action::First {
+        place: n,
         value: first,
     })
 }
