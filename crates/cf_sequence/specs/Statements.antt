@@ -1,5 +1,5 @@
 -- Statements: the ends of objects on each way out of a scope, loops with their conditions inside, and what a label passes.
-use Rattle.std.specs.Prelude.{ℕ, suc, ◌+◌, length, if◌then◌else◌, Bool, false, ◌||◌, List, [], ◌∷◌, ◌++◌, Option, Some, None, reverse, find, bytes_eq}
+use Rattle.std.specs.Prelude.{ℕ, suc, ◌+◌, length, if◌then◌else◌, Bool, true, false, ◌||◌, List, [], ◌∷◌, ◌++◌, Option, Some, None, reverse, find, bytes_eq}
 use Rattle.cf_core.specs.declared.operators.LoopForm.TheVariants as form
 use Rattle.cf_core.specs.Types.{Name, SourceType, void, is_class}
 use Rattle.cf_core.specs.Classes.{Class}
