@@ -28,8 +28,8 @@ cell name t i = index (decay (static_object name t)) (num i)
 abbrev char : SourceType
 char = integer Char
 
-abbrev row : SourceType
-row = array int 2
+abbrev pair : SourceType
+pair = array int 2
 
 -- int a[4]={1,2};int main(){a[1]=5;return a[0]+a[1]+a[3];}: what is left out is 0, and the elements may be changed
 abbrev a : SourceType
@@ -46,7 +46,7 @@ elements_are_set = record { core = refl; plain = refl }
 
 -- int m[2][2]={{1,2},{3}};int main(){return m[0][1]+m[1][0]+m[1][1];}: lists in lists
 abbrev m : SourceType
-m = array row 2
+m = array pair 2
 
 abbrev nested : List Static
 nested = set_by (codes "m") m (list (listed (list (listed (num 1 ∷ num 2 ∷ [])) zeros ∷ list (listed (num 3 ∷ [])) zeros ∷ [])) zeros) ∷ []

@@ -1,6 +1,6 @@
 -- A file is built where the test finds nothing in it.
 use Rattle.std.proofs.Common.{◌≡◌, ℕ, suc, ◌==◌, Bool, true, false, not, ◌&&◌, ◌||◌, List, [], ◌∷◌, map, length, Option, Some, None, refl, ap, sym, ◌∙◌, arith}
-use Rattle.std.specs.Prelude.{is_some, bytes_eq, codes, cond, if◌then◌else◌}
+use Rattle.std.specs.Prelude.{is_some, bytes_eq, codes, cond, find, if◌then◌else◌}
 use Rattle.std.specs.List.{list_all}
 use Rattle.std.proofs.lemmas.Bool.{eqb-true}
 use Rattle.std.proofs.lemmas.List.{length-map}
@@ -101,7 +101,8 @@ module _ (tables : Tables) where
 
   named-is : (xs : List CoreStatic) (name : Name) → type_named tables xs name ≡ type_of_static (statics_of xs) name
   named-is [] name = refl
-  named-is (x ∷ xs) name = picked (bytes_eq x.name name) x _ _ (named-is xs name)
+  named-is (x ∷ xs) name =
+      picked (bytes_eq x.name name) x (find (λ (y : CoreStatic). bytes_eq y.name name) xs) (find (λ (y : Static). bytes_eq y.name name) (statics_of xs)) (named-is xs name)
 
   mark-is : (bytes : List ℕ) → unbuilt.has_mark bytes ≡ has_mark bytes
   mark-is [] = refl
