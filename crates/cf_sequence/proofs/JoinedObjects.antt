@@ -10,12 +10,11 @@ use Rattle.cf_core.specs.Core.{Static}
 use Rattle.cf_core.specs.Calls.{Setting}
 use Rattle.cf_core.specs.Joined as core
 use Rattle.cf_core.specs.Joined.{is_nothing}
-use Rattle.cf_plain.specs.Plain.{Plains, PlainStatic, act, nothing, more}
-use Rattle.cf_plain.specs.Plain as plain_tree
+use Rattle.cf_plain.specs.Plain.{Plains, PlainStatic, nothing}
 use Rattle.cf_plain.specs.Program.{PlainSetting}
 use Rattle.cf_plain.specs.Joined as plain
 use Rattle.cf_sequence.specs.Built.{is_constant_set, is_built_static, is_built_setting}
-use Rattle.cf_sequence.specs.Statements.{type_of_static, binds, reached, started, initialised}
+use Rattle.cf_sequence.specs.Statements.{type_of_static, binds, reached, initialised}
 use Rattle.cf_sequence.specs.Sequenced.{sequenced_static}
 use Rattle.cf_sequence.proofs.Calling.{never}
 use Rattle.cf_sequence.proofs.StaticObjects.{type_found}
@@ -226,7 +225,7 @@ among-grown xs zs (x ∷ ks) there =
 
 empty-is : (x : Static) (t : SourceType) (b : Bool) → plain.is_empty (if b then nothing else initialised [] t x.name x.start 0 nothing) ≡ b
 empty-is x t true = refl
-empty-is x t false = by (binds x.start) (started [] t x.start 0 0 (more (act (plain_tree.finish_static x.name)) nothing))
+empty-is x t false = by (binds x.start) _
   where
     by : (b : Bool) (rest : Plains) → plain.is_empty (reached b t x.name rest) ≡ false
     by true rest = refl

@@ -1,10 +1,10 @@
 -- Static references: of a place of something static, and of a temporary, which is a static object of its own (8.4, 8.4.3).
 use Rattle.std.proofs.Common.{◌≡◌, List, [], ◌∷◌, refl}
-use Rattle.std.specs.Prelude.{pos, codes, true, Some}
+use Rattle.std.specs.Prelude.{pos, codes, true}
 use Rattle.std.specs.List.{list_all}
 use Rattle.cf_base.specs.Event.{Ended, Undefined}
 use Rattle.cf_core.specs.Types.{Name, SourceType, pointer, reference, array, const}
-use Rattle.cf_core.specs.Core.{Core, Static, CoreFile, Holder, no_temporary, static_temporary, absent, static_object, function, address, read, decay, index, pointer_call, bind, full, store, list, zeros}
+use Rattle.cf_core.specs.Core.{Core, Static, CoreFile, no_temporary, static_temporary, absent, static_object, function, address, read, decay, index, pointer_call, bind, full, store, list, zeros}
 use Rattle.cf_core.specs.Calls.{Program}
 use Rattle.cf_core.specs.Joined.{program_of}
 use Rattle.cf_core.proofs.Sample.{int, function_type, function_of, listed, in_block, main_of, static_of, returns, num, add, called}

@@ -1,5 +1,5 @@
 -- A static reference: it is bound to a place, or to a static object of its own, which a constant begins (8.4.3).
-use Rattle.std.proofs.Common.{◌≡◌, inl, inr, ℕ, suc, ◌+◌, ◌-◌, ◌≤◌, ◌<◌, Bool, true, false, List, [], reverse, refl, sym, ◌∙◌, ap, subst, arith, if◌then◌else◌}
+use Rattle.std.proofs.Common.{◌≡◌, inl, ℕ, suc, ◌+◌, ◌≤◌, true, false, List, [], ◌∷◌, reverse, refl, sym, ◌∙◌, ap, subst, arith, if◌then◌else◌}
 use Rattle.std.specs.Prelude.{Option, Some, None}
 use Rattle.cf_base.specs.World.{World, and_then}
 use Rattle.cf_core.specs.Types.{SourceType, Name}
@@ -20,7 +20,7 @@ use Rattle.cf_plain.specs.Running.{Flow, keep}
 use Rattle.cf_sequence.specs.Follows.{Follows}
 use Rattle.cf_sequence.specs.Built.{is_value, is_chain, is_bound}
 use Rattle.cf_sequence.specs.Made.{Temporary, temporaries, width}
-use Rattle.cf_sequence.specs.Expressions.{Full, flag, destination, ended, settled, value}
+use Rattle.cf_sequence.specs.Expressions.{Full, flag, ended, settled, value}
 use Rattle.cf_sequence.specs.Statements.{started}
 use Rattle.cf_sequence.proofs.Following.{on, pull, pull-two}
 use Rattle.cf_sequence.proofs.Calling.{Bodies, never}
@@ -139,7 +139,7 @@ module _ (again : calling.Again) (again' : running.Again) (P : Program) (bodies 
         (keep-other m 0 h1 (At (root q)) (λ z. omega arith) ∙ valued.grown.below 0 (omega arith) (inl (omega arith)) ∙ cleared.below 0 (omega arith) ∙ at)
         (keep-same m h1 (At (root q))) (same ∙ valued.grown.frame)
         (listed-same x false 0 (0 + width e) h1 h2 f1.locals f1.locals ts valued.grown.made (placing e ok false 0) (λ j low high. keep-other m (flag x j) h1 (At (root q)) (λ z. omega arith)) (λ j low high. refl)
-        valued.grown.listed))))))))
+        valued.grown.listed)))))))))
 
     held-steps : Follows S (and_then (settled_full again P p bound s w) (on c)) (runs_on again' G (started P.classes T bound 0 0 rest) h K (with_frame f s) w)
     held-steps =
