@@ -8,7 +8,7 @@ use Rattle.cf_base.proofs.Tests.{both}
 use Rattle.cf_types.specs.Operators.{is_shift}
 use Rattle.cf_core.specs.declared.operators.PointerOperator.{PointerOperator}
 use Rattle.cf_core.specs.declared.operators.PointerOperator.TheVariants as ptr
-use Rattle.cf_core.specs.Types.{SourceType, void, integer, enumeration, pointer, reference, data_member, function_member, const, same_but_const, is_void}
+use Rattle.cf_core.specs.Types.{Name, SourceType, void, integer, enumeration, pointer, reference, data_member, function_member, const, same_but_const, is_void}
 use Rattle.cf_core.specs.Core.{Change, arithmetic, moved, Static, no_temporary, local_temporary, static_temporary}
 use Rattle.cf_core.specs.Places.{is_scalar}
 use Rattle.cf_core.specs.Typing.{Scope, Typing, no_typing, allowed, is_function, is_integral, same_type, of_start, of_value, of_name, is_integer, integral_type, scalar_type, compares_with_null, is_condition, is_expression, is_zero, pointed, points_to_object, is_right_operand, pointers_alike, may_be_equal, pointer_operated, changes, either, or_else, to_pointer, converts}
