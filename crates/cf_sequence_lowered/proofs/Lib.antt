@@ -19,3 +19,12 @@ pub mod LiteralLaws
 pub mod NameLaws
 pub mod KnownSteps
 pub mod KnownLaws
+pub mod ReadySteps
+pub mod ReadyTypes
+pub mod ReadyValues
+pub mod ReadyInitials
+pub mod ReadyLists
+pub mod ReadyStatements
+pub mod ReadyLaws
+pub mod LowerableLaws
+mod Rows
