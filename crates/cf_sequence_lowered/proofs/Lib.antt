@@ -18,6 +18,8 @@ pub mod WeightStatements
 pub mod LiteralLaws
 pub mod NameLaws
 pub mod KnownSteps
+pub mod KnownValues
+pub mod KnownStarts
 pub mod KnownLaws
 pub mod ReadySteps
 pub mod ReadyTypes

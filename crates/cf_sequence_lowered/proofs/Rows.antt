@@ -16,7 +16,7 @@ use Rattle.cf_sequence_lowered.specs.Lowers.{CoreLowers}
 abbrev known_static : Name → SourceType → Core → Static
 known_static name t e = record { name = name; type = t; start = e; owner = None; is_constant = true; is_shared = false; is_local = false }
 
--- int t=3;char*s="ab";int f(int a){return a+1;}
+-- int t=3;char*s="ab";int v[3]={1,2};int f(int a){return a+1;}
 -- int main(){int x=0;int*p=&x;int a[2]={1,2};*p=f(2);while(x<5){x=x+1;switch(x){case 1:continue;default:x=x+1;}}++p;return a[1]+t;}
 abbrev sample : CoreFile
 sample = record {
@@ -32,7 +32,8 @@ sample = record {
       ∷ switch (value_of 0) (listed (case_label (pos 1) ∷ continue ∷ default_label ∷ set (local 0) (add (value_of 0) (num 1)) ∷ [])) ∷ []))
       ∷ full (step false (moved false) (local 1))
       ∷ returns (add (read (index (decay (local 2)) (num 1))) (read (static_object (codes "t") int))) ∷ []) ∷ [];
-  statics = known_static (codes "t") int (num 3) ∷ known_static (codes "s") (pointer (integer Char)) (decay (text 0 (97 ∷ 98 ∷ 0 ∷ []))) ∷ [];
+  statics = known_static (codes "t") int (num 3) ∷ known_static (codes "s") (pointer (integer Char)) (decay (text 0 (97 ∷ 98 ∷ 0 ∷ [])))
+      ∷ known_static (codes "v") (array int 3) (list (listed (num 1 ∷ num 2 ∷ [])) zeros) ∷ [];
 }
 
 sample_is_valid : valid_file sample ≡ true
