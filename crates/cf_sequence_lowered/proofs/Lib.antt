@@ -18,4 +18,15 @@ pub mod WeightStatements
 pub mod LiteralLaws
 pub mod NameLaws
 pub mod KnownSteps
+pub mod KnownValues
+pub mod KnownStarts
 pub mod KnownLaws
+pub mod ReadySteps
+pub mod ReadyTypes
+pub mod ReadyValues
+pub mod ReadyInitials
+pub mod ReadyLists
+pub mod ReadyStatements
+pub mod ReadyLaws
+pub mod LowerableLaws
+mod Rows

@@ -3,8 +3,8 @@
 use Rattle.std.specs.Prelude.{zero, suc, Bool, true, false, ◌&&◌, ◌||◌, not, [], length, pos, Option, Some, None}
 use Rattle.std.specs.List.{list_all}
 use Rattle.cf_base.specs.declared.kind.Kind.TheVariants.{Char}
-use Rattle.cf_core.specs.Types.{Name, SourceType, integer, array}
-use Rattle.cf_core.specs.Core.{Core, number, text, static_object, function, address, dereference, decay, index, pointer_operate, convert, operate, unary, logical_not, logical_and, logical_or, conditional, list, Static, CoreFile}
+use Rattle.cf_core.specs.Types.{Name, SourceType, integer, array, plain as unqualified, element}
+use Rattle.cf_core.specs.Core.{Core, Cores, none, more, number, text, static_object, function, address, dereference, decay, index, pointer_operate, convert, operate, unary, logical_not, logical_and, logical_or, conditional, list, Static, CoreFile}
 use Rattle.cf_core.specs.Joined.{is_nothing}
 use Rattle.cf_lower_layout.specs.Sorts.{sort_of}
 use Rattle.cf_plain.specs.Plain.{Register}
@@ -49,7 +49,7 @@ module _ (f : Name) where
   core_known (conditional c a b) = chosen (holds_truth (core_known c)) unknown (core_known a) (core_known b)
   core_known e = unknown
 
-  -- Whether that of each node is known that is evaluated. Of a list it is not known here, so that static arrays with lists are not covered (8.4.1).
+  -- whether that of each node is known that is evaluated; a list is none of these
   abbrev pub all_known : Core → Bool
   all_known (address e) = all_known e
   all_known (dereference e) = all_known e
@@ -66,10 +66,21 @@ module _ (f : Name) where
   all_known (list es last) = false
   all_known e = true
 
--- its value, if it has one, is what a scalar of its type holds
+  -- Whether what begins an object of this type is known: a value is what a scalar of the type holds, and an element of a list is begun as an object is (8.4.1).
+  abbrev mutual
+    pub listed_known : SourceType → Core → Bool
+    listed_known t (list es last) = items_known (element (unqualified t)) es
+    listed_known t e = false
+
+    pub items_known : SourceType → Cores → Bool
+    items_known t none = true
+    items_known t (more e es) = (listed_known t e || (is_filling e || (all_known e && is_value_of (sort_of t) (core_known e)))) && items_known t es
+
+  abbrev pub item_known : SourceType → Core → Bool
+  item_known t e = listed_known t e || (is_filling e || (all_known e && is_value_of (sort_of t) (core_known e)))
+
 abbrev pub start_is_known : SourceType → Static → Bool
-start_is_known t x =
-    is_nothing x.start || (is_filling x.start || (all_known (owner_name x) x.start && is_value_of (sort_of t) (core_known (owner_name x) x.start)))
+start_is_known t x = is_nothing x.start || item_known (owner_name x) t x.start
 
 -- what is local to no function is shared by no files
 abbrev pub owner_is_plain : Static → Bool

@@ -5,5 +5,7 @@ pub mod Texts
 pub mod Literals
 pub mod Names
 pub mod Known
+pub mod Ready
+pub mod Lowers
 pub mod Labels
 pub mod Counts

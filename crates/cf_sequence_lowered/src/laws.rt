@@ -6,10 +6,11 @@ ghost use Rattle.cf_core.specs.Valid.{valid_file};
 ghost use Rattle.cf_plain.specs.Plain.{PlainFunction};
 ghost use Rattle.cf_sequence.specs.Built.{is_built_file};
 ghost use Rattle.cf_sequence.specs.Sequenced.{sequenced_file};
+ghost use Rattle.cf_lower_kept.specs.Ready.{functions_ready};
 ghost use Rattle.cf_lower_program.specs.Actions.{actions_lowered};
 ghost use Rattle.cf_lower_program.specs.Counts.{counts_fit, shared_apart};
 ghost use Rattle.cf_lower_program.specs.Labels.{switches_fit};
-ghost use Rattle.cf_lower_program.specs.Lowerable.{is_none, is_plain};
+ghost use Rattle.cf_lower_program.specs.Lowerable.{Lowerable, is_none, is_plain};
 ghost use Rattle.cf_lower_program.specs.Names.{literals_differ, names_lowered};
 ghost use Rattle.cf_lower_program.specs.Passed.{arguments_apart};
 ghost use Rattle.cf_lower_program.specs.Starts.{statics_known, texts_fit};
@@ -18,8 +19,10 @@ ghost use Rattle.cf_sequence_lowered.specs.Counts.{all_small, none_shared_and_lo
 ghost use Rattle.cf_sequence_lowered.specs.Known.{core_statics_known};
 ghost use Rattle.cf_sequence_lowered.specs.Labels.{all_labels_agree};
 ghost use Rattle.cf_sequence_lowered.specs.Literals.{core_literals_differ};
+ghost use Rattle.cf_sequence_lowered.specs.Lowers.{CoreLowers, Left};
 ghost use Rattle.cf_sequence_lowered.specs.Names.{core_names_fit};
 ghost use Rattle.cf_sequence_lowered.specs.Operators.{operands_are_promoted};
+ghost use Rattle.cf_sequence_lowered.specs.Ready.{core_is_ready};
 ghost use Rattle.cf_sequence_lowered.specs.Texts.{literals_fit};
 ghost use Rattle.cf_sequence_lowered.specs.Types.{core_types_fit};
 
@@ -81,4 +84,15 @@ pub fn sequenced_names_are_lowered()
 /// The law that what initialisers of static objects do is known before the run, where their values are known of the core. It does nothing.
 pub fn sequenced_statics_are_known()
     ensures { (file : CoreFile) → valid_file file ≡ true → is_built_file file ≡ true → core_statics_known file ≡ true → statics_known (sequenced_file file) ≡ true }
+{}
+
+/// The law that each action of functions is ready for lowering, by what registers hold before it, where the nodes of the core are ready.
+/// It does nothing.
+pub fn sequenced_functions_are_ready()
+    ensures { (file : CoreFile) → valid_file file ≡ true → is_built_file file ≡ true → core_is_ready file ≡ true → functions_ready (sequenced_file file) ≡ true }
+{}
+
+/// The law that a sequenced file is lowered where its core is as these laws ask, but for the tests that no law shows yet. It does nothing.
+pub fn sequenced_files_are_lowerable()
+    ensures { (file : CoreFile) → valid_file file ≡ true → is_built_file file ≡ true → CoreLowers file → Left (sequenced_file file) → Lowerable (sequenced_file file) }
 {}

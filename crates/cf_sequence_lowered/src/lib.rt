@@ -8,7 +8,8 @@ mod laws;
 
 pub use laws::{
     sequenced_actions_are_lowered, sequenced_arguments_are_apart, sequenced_counts_fit,
-    sequenced_files_have_no_classes, sequenced_functions_are_plain, sequenced_labels_fit,
-    sequenced_literals_differ, sequenced_names_are_lowered, sequenced_names_are_shared_or_local,
-    sequenced_statics_are_known, sequenced_texts_fit, sequenced_types_are_lowered,
+    sequenced_files_are_lowerable, sequenced_files_have_no_classes, sequenced_functions_are_plain,
+    sequenced_functions_are_ready, sequenced_labels_fit, sequenced_literals_differ,
+    sequenced_names_are_lowered, sequenced_names_are_shared_or_local, sequenced_statics_are_known,
+    sequenced_texts_fit, sequenced_types_are_lowered,
 };
