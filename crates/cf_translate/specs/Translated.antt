@@ -17,7 +17,7 @@ use Rattle.cf_sequence_unit.specs.declared.fault.SequenceFault.TheVariants as fa
 -- a valid unit, and a text of it
 pub record IsTextOf (unit : CUnit) (text : List ℕ) : Type 0 where
   pub valid : valid_unit unit ≡ true
-  pub text : Text text unit
+  pub spelled : Text text unit
 
 -- The text is printed from the unit that the file's plain statements are lowered to. Where the laws of lowering are about the plain file, it is a text of that unit, which
 -- is valid.

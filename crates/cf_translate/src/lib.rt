@@ -1,6 +1,6 @@
 //! From the core of a file to a text of the small C.
 #![tactic(auto)]
 
-mod translate;
+mod texts;
 
-pub use translate::translate;
+pub use texts::translate;

@@ -22,6 +22,8 @@ pub fn translate(alloc: Global, core: CoreUnit) -> Result<Vec<u8>, SequenceFault
     let _valid = core.functions();
     let plain = sequence(alloc, core)?;
     let unit = lower(alloc, &plain)?;
-    let text = print(alloc, &unit)?;
-    Ok(text)
+    match print(alloc, &unit) {
+        Ok(text) => Ok(text),
+        Err(_) => Err(SequenceFault::Memory),
+    }
 }

@@ -9,7 +9,7 @@ use Rattle.cc_whole_printed.specs.Written.{written_unit}
 use Rattle.cf_classes.specs.ClassTable.{ClassTable}
 use Rattle.cf_core.specs.FromUnit.{Unit as CoreUnit, IsValid}
 use Rattle.cf_lower.specs.Functions.{lowered_file}
-use Rattle.cf_lower_program.specs.Agrees.{UnitsAreValid}
+use Rattle.cf_lower_program.specs.Agrees.{UnitsAreValid, IsLowered}
 use Rattle.cf_lower_types.specs.Ordered.{IsOrdered}
 use Rattle.cf_plain.specs.View as plain
 use Rattle.cf_sequence_unit.proofs.Units.{no-definitions}
@@ -33,7 +33,8 @@ module _ (core : CoreUnit) (valid : IsValid core) (made : plain.Unit) (sequenced
     printed = printed;
     is_text = λ lowerable.
         let valid-here = are-valid (plain.file_of made) unit lowerable lowered in
-        record { valid = valid-here; text = subst (λ t. Text t unit) (sym printed) (are-texts unit (are-written unit valid-here)) };
+        record { valid = valid-here; spelled = subst (λ t. Text t unit) (sym printed) (are-texts unit (are-written unit valid-here)) };
   }
     where
+      lowered : IsLowered (plain.file_of made) unit
       lowered = record { version = version; items = items }
