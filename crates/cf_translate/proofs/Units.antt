@@ -24,10 +24,9 @@ module _ (core : CoreUnit) (valid : IsValid core) (made : plain.Unit) (sequenced
   no-classes = ap (λ (c : ClassTable). c.defined) sequenced.sequenced.classes ∙ no-definitions core valid sequenced.built
 
   pub translated : UnitsAreValid → ((u : CUnit) → valid_unit u ≡ true → written_unit u ≡ true) → ((u : CUnit) → written_unit u ≡ true → Text (unit_text u) u)
-      → (unit : CUnit) (text : List ℕ) → unit.version ≡ 1 → items_of unit.items ≡ lowered_file (plain.file_of made) → text ≡ unit_text unit → Translates core text
+      → (unit : CUnit) (text : List ℕ) → unit.version ≡ 1 → items_of unit.items ≡ lowered_file (plain.file_of made) → text ≡ unit_text unit → Translates core unit text
   translated are-valid are-written are-texts unit text version items printed = record {
     made = made;
-    unit = unit;
     sequenced = sequenced;
     lowered = lowered;
     printed = printed;

@@ -1,6 +1,6 @@
-//! From the core of a file to a text of the small C.
+//! From the core of a file to its unit of the small C and a text of that unit.
 #![tactic(auto)]
 
 mod texts;
 
-pub use texts::translate;
+pub use texts::{Translated, translate};
