@@ -1,0 +1,11 @@
+mod Files
+mod Fitting
+mod Joined
+mod Lists
+mod Meaning
+mod Names
+mod Objects
+mod Rows
+mod Simple
+mod Standing
+mod Typed
