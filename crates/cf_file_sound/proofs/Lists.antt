@@ -1,9 +1,9 @@
--- Lists: what is so of each element, what is found by a name, and what a map keeps.
-use Rattle.std.proofs.Common.{◌≡◌, ℕ, zero, suc, ◌+◌, Bool, true, false, cond, ◌&&◌, ◌||◌, not, nat_lt, List, [], ◌∷◌, length, map, ap, refl, sym, ◌∙◌, subst, arith}
+-- Lists: what is so of each element, whether a search finds one, and what a map keeps.
+use Rattle.std.proofs.Common.{◌≡◌, ℕ, zero, suc, ◌+◌, Bool, true, false, cond, ◌||◌, not, nat_lt, List, [], ◌∷◌, length, map, ap, refl, sym, ◌∙◌, subst, arith}
 use Rattle.std.specs.Prelude.{Some, None, is_some, find, position, slice_get}
 use Rattle.std.specs.List.{list_any, list_all, prefix_len}
 use Rattle.std.proofs.lemmas.Bool.Decides.{nat_tests}
-use Rattle.cf_base.proofs.Tests.{both, all_of}
+use Rattle.cf_base.proofs.Tests.{all_of}
 use Rattle.cf_file_sound.proofs.Typed.{never}
 
 pub none-is : {A : Type 0} (a : A) → None ≡ Some a → ⊥
@@ -30,14 +30,6 @@ module _ {A : Type 0} where
       or-right : (a b : Bool) → b ≡ true → a || b ≡ true
       or-right true b e = refl
       or-right false b e = e
-
-  -- all of two tests
-  pub all-both : (one other : A → Bool) (xs : List A) → list_all one xs ≡ true → list_all other xs ≡ true → list_all (λ x. one x && other x) xs ≡ true
-  all-both one other [] p q = refl
-  all-both one other (x ∷ xs) p q =
-      let u = both (one x) (list_all one xs) p in
-      let v = both (other x) (list_all other xs) q in
-      all_of (one x && other x) (list_all (λ x. one x && other x) xs) (all_of (one x) (other x) u.0 v.0) (all-both one other xs u.1 v.1)
 
   pub found-any : (test : A → Bool) (xs : List A) → is_some (find test xs) ≡ list_any test xs
   found-any test [] = refl

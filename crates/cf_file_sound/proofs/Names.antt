@@ -33,7 +33,7 @@ marked (b ∷ n) rest ok = ap (λ v. is_mark (b ∷ (n ++ mark ++ rest)) || v) (
 file-marked : (n : Name) → has_mark (in_file 1 n) ≡ true
 file-marked n = marked n (decimal 1) numeral
 
--- what is equal to a name without a mark has none
+-- a name without a mark is another one
 other-name : (n m : Name) → has_mark m ≡ false → bytes_eq (in_file 1 n) m ≡ false
 other-name n m unmarked = by (bytes_eq (in_file 1 n) m) refl
   where
