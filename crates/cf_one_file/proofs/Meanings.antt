@@ -1,25 +1,18 @@
--- A file whose constructs are all built and whose program is sound has a meaning, and a text that agrees with what it means runs as meant.
+-- A text that agrees with what a file means runs as meant, where the file has a meaning.
 use Rattle.std.proofs.Common.{◌≡◌, ◌<◌, ℕ, List, [], ◌∷◌, Option, Some, None, refl}
 use Rattle.std.proofs.lemmas.List.Elements.{All-head, All-tail}
 use Rattle.cf_base.specs.World.{Outcome}
-use Rattle.cf_core.specs.FromUnit.{Unit as CoreUnit, file_of, units_mean}
-use Rattle.cf_core.specs.Joined.{program_of}
-use Rattle.cf_core_sound.specs.Laws.{ProgramsAreSound}
+use Rattle.cf_core.specs.FromUnit.{Unit as CoreUnit, units_mean}
 use Rattle.cf_core_sound.specs.Well.{OfBytes}
+use Rattle.cf_file_sound.specs.Laws.{OneFileIsSound}
 use Rattle.cf_lower_place.specs.Input.{IsInput}
 use Rattle.cf_lower_program.specs.Agrees.{AgreesWith}
 use Rattle.cf_sequence_unit.proofs.Units.{built-file}
-use Rattle.cf_one_file.specs.Means.{LowerableFileMeans, OneFileIsSound, IsMeant, LowerableFileRunsAsMeant}
-use Rattle.cf_one_file.proofs.Units.{no-classes, no-initialisers}
+use Rattle.cf_one_file.specs.Means.{LowerableFileMeans, IsMeant, LowerableFileRunsAsMeant}
 
 pub of-bytes : (input : List ℕ) → IsInput input → OfBytes input
 of-bytes [] all = tt
 of-bytes (b ∷ rest) all = (All-head (λ b. b < 256) b rest all, of-bytes rest (All-tail (λ b. b < 256) b rest all))
-
-pub file-sound : ProgramsAreSound → OneFileIsSound
-file-sound sound core none ok =
-    let built = built-file core none in
-    sound (program_of (file_of core ∷ [])) (no-classes (file_of core) built) (no-initialisers (file_of core) built) ok
 
 module _ (core : CoreUnit) (input : List ℕ) (heap depth n : ℕ) (end : Outcome) where
   meant : (o : Option Outcome) → units_mean (core ∷ []) input heap depth n ≡ o → (o ≡ None → ⊥) → AgreesWith o end → IsMeant core input heap depth n end
@@ -29,5 +22,5 @@ module _ (core : CoreUnit) (input : List ℕ) (heap depth n : ℕ) (end : Outcom
 pub runs-as-meant : ((input : List ℕ) → IsInput input → OfBytes input) → LowerableFileMeans → OneFileIsSound → LowerableFileRunsAsMeant
 runs-as-meant bytes-are means sound core unit text valid translated lowerable ok input bytes heap depth n end m =
     meant core input heap depth n end (units_mean (core ∷ []) input heap depth n) refl
-    (sound core translated.sequenced.built ok input (bytes-are input bytes) heap depth n)
+    (sound core valid (built-file core translated.sequenced.built) ok input (bytes-are input bytes) heap depth n)
     (means core unit text valid translated lowerable input bytes heap depth n end m)

@@ -1,18 +1,15 @@
 -- What the runs of a file's C text do, by what the file's core means.
-use Rattle.std.specs.Prelude.{◌≡◌, ℕ, true, List, [], ◌∷◌, Some, None}
+use Rattle.std.specs.Prelude.{◌≡◌, ℕ, true, List, [], ◌∷◌, Some}
 use Rattle.cf_base.specs.Agree.{Agree}
 use Rattle.cf_base.specs.World.{Outcome}
 use Rattle.cc_whole.specs.declared.unit.CUnit.{CUnit}
 use Rattle.cc_whole_outcome.specs.CMean.{CMean}
 use Rattle.cf_core.specs.FromUnit.{Unit as CoreUnit, IsValid, file_of, units_mean}
-use Rattle.cf_core.specs.Joined.{program_of}
-use Rattle.cf_core_sound.specs.Programs.{is_sound_program}
-use Rattle.cf_core_sound.specs.Well.{OfBytes}
+use Rattle.cf_file_sound.specs.Files.{is_sound_file}
 use Rattle.cf_lower_place.specs.Input.{IsInput}
 use Rattle.cf_lower_program.specs.Agrees.{AgreesWith}
 use Rattle.cf_lower_program.specs.Lowerable.{Lowerable}
 use Rattle.cf_plain.specs.View as plain
-use Rattle.cf_sequence_built.specs.Unbuilt.{in_file}
 use Rattle.cf_translate.specs.Translated.{Translates}
 use Rattle.cf_one_file.specs.Covered.{Covered}
 
@@ -34,15 +31,7 @@ LowerableFileMeans =
 abbrev pub OneFileMeans : Type 0
 OneFileMeans = (core : CoreUnit) (unit : CUnit) (text : List ℕ) → IsValid core → Translates core unit text → Covered core → TextMeans core text
 
--- ---- soundness
-
--- A file whose constructs are all built has an outcome, where its program is sound.
-abbrev pub OneFileIsSound : Type 0
-OneFileIsSound =
-    (core : CoreUnit) → in_file core ≡ None → is_sound_program (program_of (file_of core ∷ [])) ≡ true
-    → (input : List ℕ) → OfBytes input → (heap depth n : ℕ) → units_mean (core ∷ []) input heap depth n ≡ None → ⊥
-
--- ---- both
+-- ---- agreement with a meaning that is there
 
 -- the core has an outcome, and this one agrees with it
 pub record IsMeant (core : CoreUnit) (input : List ℕ) (heap depth n : ℕ) (end : Outcome) : Type 0 where
@@ -58,9 +47,9 @@ TextRunsAsMeant core text =
 abbrev pub LowerableFileRunsAsMeant : Type 0
 LowerableFileRunsAsMeant =
     (core : CoreUnit) (unit : CUnit) (text : List ℕ) → IsValid core → (translated : Translates core unit text) → Lowerable (plain.file_of translated.made)
-    → is_sound_program (program_of (file_of core ∷ [])) ≡ true → TextRunsAsMeant core text
+    → is_sound_file (file_of core) ≡ true → TextRunsAsMeant core text
 
 abbrev pub OneFileRunsAsMeant : Type 0
 OneFileRunsAsMeant =
     (core : CoreUnit) (unit : CUnit) (text : List ℕ) → IsValid core → Translates core unit text → Covered core
-    → is_sound_program (program_of (file_of core ∷ [])) ≡ true → TextRunsAsMeant core text
+    → is_sound_file (file_of core) ≡ true → TextRunsAsMeant core text

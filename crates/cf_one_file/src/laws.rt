@@ -1,4 +1,4 @@
-//! The laws, from the core to its plain file, to the runs of its text, and to its meaning.
+//! The laws, from the core to its plain file, to the runs of its text, and to the meaning with which these agree.
 ghost use Rattle.std.specs.Prelude.{◌≡◌, ℕ, List, None, true};
 ghost use Rattle.cf_core.specs.FromUnit.{Unit as CoreUnit, IsValid, file_of};
 ghost use Rattle.cf_core_sound.specs.Well.{OfBytes};
@@ -9,10 +9,10 @@ ghost use Rattle.cf_sequence.specs.Built.{is_built_file};
 ghost use Rattle.cf_sequence_built.specs.Unbuilt.{in_file};
 ghost use Rattle.cf_sequence_unit.specs.Sequences.{Sequences};
 ghost use Rattle.cf_one_file.specs.Covered.{Covered};
-ghost use Rattle.cf_one_file.specs.Means.{LowerableFileMeans, OneFileMeans, OneFileIsSound, LowerableFileRunsAsMeant, OneFileRunsAsMeant};
+ghost use Rattle.cf_one_file.specs.Means.{LowerableFileMeans, OneFileMeans, LowerableFileRunsAsMeant, OneFileRunsAsMeant};
 
 use cc_whole_read::text_has_one_unit;
-use cf_core_sound::programs_are_sound;
+use cf_file_sound::one_file_is_sound;
 use cf_lower_alone::one_file_agrees;
 use cf_sequence_lowered::sequenced_files_are_lowerable;
 use cf_sequence_unit::sequenced_units_keep_the_meaning;
@@ -51,14 +51,6 @@ pub fn one_file_means()
 pub fn inputs_are_of_bytes()
     ensures { (input : List ℕ) → IsInput input → OfBytes input }
 {}
-
-/// The law that a file whose constructs are all built, and whose program is typed and of the forms that are sound, has a meaning: for every input of bytes, heap limit, depth
-/// limit and bound of ticks there are a trace and an end. It does nothing.
-pub fn one_file_is_sound()
-    ensures { OneFileIsSound }
-{
-    programs_are_sound();
-}
 
 /// The law that a text for a sound core whose plain file is lowered runs as the core means: there is a meaning, and the run agrees with it. It does nothing.
 pub fn lowerable_file_runs_as_meant()
