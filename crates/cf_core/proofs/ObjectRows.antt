@@ -1,7 +1,8 @@
 -- Programs with the free store, arrays of objects and static objects, and what each run shows.
 use Rattle.std.proofs.Common.{◌≡◌, ℕ, [], ◌∷◌, refl}
-use Rattle.std.specs.Prelude.{pos, Some, codes}
-use Rattle.cf_base.specs.declared.kind.Kind.TheVariants.{Int, Char}
+use Rattle.std.specs.Prelude.{pos, negsuc, Some, codes}
+use Rattle.cf_base.specs.declared.kind.Kind.{Kind}
+use Rattle.cf_base.specs.declared.kind.Kind.TheVariants.{Int, Char, SChar, UChar}
 use Rattle.cf_base.specs.declared.arith.Arith.TheVariants as op
 use Rattle.cf_base.specs.Event.{Ended, Ticks}
 use Rattle.cf_core.specs.declared.operators.PointerOperator.TheVariants as ptr
@@ -141,6 +142,19 @@ strings_fill_with_zeros :
     (convert int (read (index (decay (local 0)) (num 3))))) ∷ []) ∷ []) []) 10
     ≡ Some (record { end = Ended (pos 10); out = [] })
 strings_fill_with_zeros = refl
+
+-- int main(){unsigned char s[2]="\310";return s[0];}, and the same with the other kinds of characters
+abbrev byte_of : Kind → Program
+byte_of k = program [] (main_of (declare 0 (array (integer k) 2) (string (200 ∷ [])) ∷ returns (convert int (read (index (decay (local 0)) (num 0)))) ∷ []) ∷ []) []
+
+byte_of_unsigned_char : run (byte_of UChar) 10 ≡ Some (record { end = Ended (pos 200); out = [] })
+byte_of_unsigned_char = refl
+
+byte_of_signed_char : run (byte_of SChar) 10 ≡ Some (record { end = Ended (negsuc 55); out = [] })
+byte_of_signed_char = refl
+
+byte_of_char : run (byte_of Char) 10 ≡ Some (record { end = Ended (negsuc 55); out = [] })
+byte_of_char = refl
 
 -- int main(){int a[2][2]={{1,2},{3}};return a[1][0]*10+a[1][1];}
 rest_of_a_list_is_zero :
