@@ -212,6 +212,7 @@ site-of T shape b q held st is_gone n so inside is_constant count counts sorts i
       sort = ap sort_of type ∙ sort-in b q t shape.form (sort-form T shape.is_const shape.form) ∙ ap (sort_with shape.form) (sym counts) ∙ sym sorts;
       is_no_class = ap is_class type ∙ class-in b q t (class-form T shape.is_const shape.form);
       is_inside = insides;
+      is_gone = refl;
       is_usable = usable all held (stored st) is_gone π;
       is_dead = dead all held (stored st) is_gone π;
       is_constant = stored-const all held st is_gone π shape.is_const (slice_get (list_of b) (depth q))

@@ -92,6 +92,7 @@ pub record IsSite (x : Object) (π : Route) (site : Site) : Type 0 where
   pub sort : sort_of (type_at [] x.type π) ≡ site.sort
   pub is_no_class : is_class (type_at [] x.type π) ≡ false
   pub is_inside : is_inside [] x.type π ≡ site.is_inside
+  pub is_gone : x.is_gone ≡ site.is_gone
   pub is_usable : is_usable [] x π ≡ not site.is_gone
   pub is_dead : is_dead [] x π ≡ site.is_gone
   pub is_constant : is_constant_place [] x π ≡ site.is_constant
