@@ -1,11 +1,7 @@
 //! What a text is answered, and what a row wants, in letters.
 
 use cf_core::CoreUnit;
-use cf_elab_env::Stop;
-use cf_elab_finished::core_of;
-use cf_parse_file::{ParseFault, unit};
-use cf_tokens::{LexFault, tokens};
-use cf_unit::Unit;
+use cf_first::{Fault, first};
 use std::alloc::Global;
 use std::process::Abort;
 use std::test::Fail;
@@ -18,34 +14,12 @@ enum Shown {
     Counts,
 }
 
-/// Why a tree is refused.
-fn stopped(alloc: Global, stop: &Stop) -> Result<String, Fail> {
-    match stop {
-        Stop::Broken(broken) => Ok(format!(in alloc; "K{}@{}", broken.rule.number(), broken.at)?),
-        Stop::Passed(limit) => Ok(format!(in alloc; "{:?} {}", limit.bound, limit.most)?),
-        Stop::Memory => Err(Fail::from("out of memory")),
-    }
-}
-
-/// Why a text has no tokens.
-fn without_tokens(alloc: Global, fault: &LexFault) -> Result<String, Fail> {
+/// Why a text has no core.
+fn refused(alloc: Global, fault: &Fault) -> Result<String, Fail> {
     match fault {
-        LexFault::Broken(broken) => {
-            Ok(format!(in alloc; "K{}@{}", broken.rule.number(), broken.at)?)
-        }
-        LexFault::Limit(limit) => Ok(format!(in alloc; "{:?} {}", limit.bound, limit.most)?),
-        LexFault::Memory => Err(Fail::from("out of memory")),
-    }
-}
-
-/// Why tokens have no tree.
-fn without_tree(alloc: Global, fault: &ParseFault) -> Result<String, Fail> {
-    match fault {
-        ParseFault::Broken(broken) => {
-            Ok(format!(in alloc; "K{}@{}", broken.rule.number(), broken.at)?)
-        }
-        ParseFault::Limit(limit) => Ok(format!(in alloc; "{:?} {}", limit.bound, limit.most)?),
-        ParseFault::Memory => Err(Fail::from("out of memory")),
+        Fault::Broken(broken) => Ok(format!(in alloc; "K{}@{}", broken.rule.number(), broken.at)?),
+        Fault::Limit(limit) => Ok(format!(in alloc; "{:?} {}", limit.bound, limit.most)?),
+        Fault::Memory => Err(Fail::from("out of memory")),
     }
 }
 
@@ -60,23 +34,12 @@ fn core_shown(alloc: Global, core: &CoreUnit, shown: Shown) -> Result<String, Fa
     }
 }
 
-fn of_tree(alloc: Global, tree: &Unit, shown: Shown) -> Result<String, Fail> {
-    let found = core_of(alloc, tree);
-    match &found {
-        Ok(Some(core)) => core_shown(alloc, core, shown),
-        Ok(None) => Ok(format!(in alloc; "no core")?),
-        Err(stop) => stopped(alloc, stop),
-    }
-}
-
 /// What a text is: a file that is taken, or the one reason why it is refused.
 fn answer(alloc: Global, text: &[u8], shown: Shown) -> Result<String, Fail> {
-    match tokens(alloc, text) {
-        Ok(found) => match unit(alloc, found.as_slice()) {
-            Ok(tree) => of_tree(alloc, &tree, shown),
-            Err(fault) => without_tree(alloc, &fault),
-        },
-        Err(fault) => without_tokens(alloc, &fault),
+    let found = first(alloc, text);
+    match &found {
+        Ok(core) => core_shown(alloc, core, shown),
+        Err(fault) => refused(alloc, fault),
     }
 }
 
