@@ -4,7 +4,7 @@ use Rattle.cf_types.specs.Table.{IsTable}
 use Rattle.cf_unit.specs.declared.file.Unit.{Unit as FileTree}
 use Rattle.cf_core.specs.FromUnit.{Unit as CoreUnit, IsValid}
 use Rattle.cf_elab.specs.Answer.{Answer, Made}
-use Rattle.cf_elab.specs.Built.{first_built, not_built, built_so_far}
+use Rattle.cf_elab.specs.Built.{first_built, first_of_file, not_built, built_so_far}
 use Rattle.cf_elab.specs.Env.{Env}
 use Rattle.cf_elab.specs.File.{Core, answer, core_unit}
 use Rattle.cf_elab_unit.specs.Unit.First.{EndsAs}
@@ -79,9 +79,11 @@ by_turn : (u : FileTree) → first_built None u ≡ answer (file.in_turn u)
 unfolding file.in_turn
 by_turn u = refl
 
+-- by the end, whether the looks find it well formed or not
+pub end_of_first : (u : FileTree) (core : Option CoreUnit) → (p : Ended u core) → first_of_file u ≡ Core (core_unit p.end)
+end_of_first u core p = ap (λ place. first_built place u) (built_is u p.ends.built) ∙ by_turn u ∙ ap answer p.ends.made
+
 pub core_of_first : CoreOfFirst
 core_of_first u core p =
-    ap (λ place. first_built place u) (built_is u p.ends.built)
-    ∙ by_turn u
-    ∙ ap answer p.ends.made
+    end_of_first u (Some core) p
     ∙ ap Core (sym (chosen_is (tree.file_fits u && look.is_finished p.end) core (core_unit p.end) p.core_is))
