@@ -56,9 +56,9 @@ fn each_stage_refuses_in_its_turn(rt: HostRuntime) -> Result<(), Fail> {
     let rows = [
         // form before grammar, grammar before names and types
         ("int main(){return 7}@", "K1@20"),
-        ("int main(){return a}", "K6@19"),
+        ("int main(){return a}", "K6@11"),
         ("int main(){return a;}", "K10@18"),
-        ("int f(){return a;}int main(){return 1 2;}", "K6@38"),
+        ("int f(){return a;}int main(){return 1 2;}", "K6@29"),
         ("int main(){return 7;}/*", "K2@21"),
     ];
     compare(&rt, rt.alloc(), &rows)
