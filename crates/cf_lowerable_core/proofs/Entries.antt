@@ -1,0 +1,214 @@
+-- What a type is, by what stands in the table: each property by the forms that it depends on.
+use Rattle.std.proofs.Common.{◌≡◌, ◌∙◌, ℕ, zero, suc, ◌<◌, ◌≤◌, ◌^◌, Bool, true, false, not, ◌&&◌, ◌||◌, List, [], ◌∷◌, map, length, drop, get_or, Option, Some, None, slice_get, All, ap, refl, sym, subst, arith, drop-cons}
+use Rattle.std.specs.Prelude.{is_some, nat_le}
+use Rattle.std.specs.List.{list_all}
+use Rattle.cf_base.specs.declared.kind.Kind.{Kind}
+use Rattle.cf_types.specs.declared.ty.Ty.{Ty}
+use Rattle.cf_types.specs.declared.ty.Ty.TheVariants as ty
+use Rattle.cf_types.specs.declared.ty.Fun.{Fun}
+use Rattle.cf_types.specs.Table.{Names, parts_of_fun}
+use Rattle.cf_core.specs.Types.{SourceType, void, gives, is_void, parameters, result, without_const}
+use Rattle.cf_core.specs.Places.{is_reference, is_const}
+use Rattle.cf_core.specs.FromTypes.{Tables, type_of, type_step, taking, fun_type}
+use Rattle.cf_lower_kept.specs.Ready.{is_code, names_well}
+use Rattle.cf_lower_layout.specs.Layout.{has_bytes, const_once}
+use Rattle.cf_lower_layout.specs.Sorts.{sort_of, scalar_sort}
+use Rattle.cf_lower_program.specs.Types.{is_laid, is_lowered}
+use Rattle.cf_lowerable_core.specs.Looks.{gives_scalar}
+
+-- ---- the forms of functions
+
+module _ (r : SourceType) (b : Bool) where
+  code-taking : (ps : List SourceType) → is_code (taking ps (gives r b)) ≡ true
+  code-taking [] = refl
+  code-taking (p ∷ ps) = refl
+
+  void-taking : (ps : List SourceType) → is_void (taking ps (gives r b)) ≡ false
+  void-taking [] = refl
+  void-taking (p ∷ ps) = refl
+
+  reference-taking : (ps : List SourceType) → is_reference (taking ps (gives r b)) ≡ false
+  reference-taking [] = refl
+  reference-taking (p ∷ ps) = refl
+
+  const-taking : (ps : List SourceType) → is_const (taking ps (gives r b)) ≡ false
+  const-taking [] = refl
+  const-taking (p ∷ ps) = refl
+
+  well-taking : (ps : List SourceType) → names_well (taking ps (gives r b)) ≡ true
+  well-taking [] = refl
+  well-taking (p ∷ ps) = refl
+
+  scalar-taking : (ps : List SourceType) → is_some (sort_of (taking ps (gives r b))) ≡ false
+  scalar-taking [] = refl
+  scalar-taking (p ∷ ps) = refl
+
+  bytes-taking : (ps : List SourceType) → has_bytes (taking ps (gives r b)) ≡ true
+  bytes-taking [] = refl
+  bytes-taking (p ∷ ps) = refl
+
+  once-taking : (ps : List SourceType) → const_once (taking ps (gives r b)) ≡ true
+  once-taking [] = refl
+  once-taking (p ∷ ps) = refl
+
+  lowered-taking : (ps : List SourceType) → is_lowered (taking ps (gives r b)) ≡ (list_all is_lowered ps && is_lowered r)
+  lowered-taking [] = refl
+  lowered-taking (p ∷ ps) = ap (λ c. is_lowered p && c) (lowered-taking ps) ∙ both-ways (is_lowered p) (list_all is_lowered ps) (is_lowered r)
+    where
+      both-ways : (x y z : Bool) → (x && (y && z)) ≡ ((x && y) && z)
+      both-ways true y z = refl
+      both-ways false y z = refl
+
+  parameters-taking : (ps : List SourceType) → parameters (taking ps (gives r b)) ≡ ps
+  parameters-taking [] = refl
+  parameters-taking (p ∷ ps) = ap (λ l. p ∷ l) (parameters-taking ps)
+
+  result-taking : (ps : List SourceType) → result (taking ps (gives r b)) ≡ r
+  result-taking [] = refl
+  result-taking (p ∷ ps) = result-taking ps
+
+-- a function type that is there
+module _ (rec : ℕ → SourceType) where
+  code-there : (funs : List Fun) (f : ℕ) → f < length funs → is_code (fun_type rec (slice_get funs f)) ≡ true
+  code-there [] f lt = absurd (omega (arith, lt))
+  code-there (g ∷ gs) zero lt = code-taking (rec g.result) g.is_const (map rec g.params)
+  code-there (g ∷ gs) (suc f) lt = code-there gs f (omega (arith, lt))
+
+  void-there : (funs : List Fun) (f : ℕ) → f < length funs → is_void (fun_type rec (slice_get funs f)) ≡ false
+  void-there [] f lt = absurd (omega (arith, lt))
+  void-there (g ∷ gs) zero lt = void-taking (rec g.result) g.is_const (map rec g.params)
+  void-there (g ∷ gs) (suc f) lt = void-there gs f (omega (arith, lt))
+
+  reference-fun : (o : Option Fun) → is_reference (fun_type rec o) ≡ false
+  reference-fun None = refl
+  reference-fun (Some f) = reference-taking (rec f.result) f.is_const (map rec f.params)
+
+  const-fun : (o : Option Fun) → is_const (fun_type rec o) ≡ false
+  const-fun None = refl
+  const-fun (Some f) = const-taking (rec f.result) f.is_const (map rec f.params)
+
+  well-fun : (o : Option Fun) → names_well (fun_type rec o) ≡ true
+  well-fun None = refl
+  well-fun (Some f) = well-taking (rec f.result) f.is_const (map rec f.params)
+
+  scalar-fun : (o : Option Fun) → is_some (sort_of (fun_type rec o)) ≡ false
+  scalar-fun None = refl
+  scalar-fun (Some f) = scalar-taking (rec f.result) f.is_const (map rec f.params)
+
+  bytes-fun : (o : Option Fun) → has_bytes (fun_type rec o) ≡ true
+  bytes-fun None = refl
+  bytes-fun (Some f) = bytes-taking (rec f.result) f.is_const (map rec f.params)
+
+  once-fun : (o : Option Fun) → const_once (fun_type rec o) ≡ true
+  once-fun None = refl
+  once-fun (Some f) = once-taking (rec f.result) f.is_const (map rec f.params)
+
+-- ---- entries
+
+module _ (tables : Tables) where
+  abbrev entered : Ty → SourceType
+  entered = type_step tables (type_of tables)
+
+  -- the type of an entry has a property as its form has it
+  pub by_form : {A : Type 0} (p : SourceType → A) (t : ℕ) (v w : Ty) → type_of tables t ≡ type_step tables (type_of tables) v → v ≡ w
+      → p (type_step tables (type_of tables) w) ≡ p (type_of tables t)
+  by_form p t v w value is = sym (ap p (value ∙ ap (type_step tables (type_of tables)) is))
+
+  pub code_by_fun : (t f : ℕ) (v : Ty) → type_of tables t ≡ type_step tables (type_of tables) v → Names tables.types.funs t (length tables.types.funs) v → v ≡ ty.Fun f
+      → true ≡ is_code (type_of tables t)
+  code_by_fun t f v value names is =
+      let known : Names tables.types.funs t (length tables.types.funs) (ty.Fun f) = subst (Names tables.types.funs t (length tables.types.funs)) is names in
+      sym (code-there (type_of tables) tables.types.funs f (known.fun_known 0 f (omega arith))) ∙ by_form is_code t v (ty.Fun f) value is
+
+  pub void_by_fun : (t f : ℕ) (v : Ty) → type_of tables t ≡ type_step tables (type_of tables) v → Names tables.types.funs t (length tables.types.funs) v → v ≡ ty.Fun f
+      → false ≡ is_void (type_of tables t)
+  void_by_fun t f v value names is =
+      let known : Names tables.types.funs t (length tables.types.funs) (ty.Fun f) = subst (Names tables.types.funs t (length tables.types.funs)) is names in
+      sym (void-there (type_of tables) tables.types.funs f (known.fun_known 0 f (omega arith))) ∙ by_form is_void t v (ty.Fun f) value is
+
+  -- ---- entries of the other forms
+
+  pub no_code : (v : Ty) → ((f : ℕ) → v ≡ ty.Fun f → ⊥) → ((u : ℕ) → v ≡ ty.Const u → ⊥) → false ≡ is_code (type_step tables (type_of tables) v)
+  no_code (ty.Fun f) no_fun no_const = absurd (no_fun f refl)
+  no_code (ty.Const u) no_fun no_const = absurd (no_const u refl)
+  no_code v no_fun no_const = refl
+
+  pub no_void : (v : Ty) → (v ≡ ty.Void → ⊥) → ((f : ℕ) → v ≡ ty.Fun f → ⊥) → ((u : ℕ) → v ≡ ty.Const u → ⊥) → false ≡ is_void (type_step tables (type_of tables) v)
+  no_void ty.Void no_void no_fun no_const = absurd (no_void refl)
+  no_void (ty.Fun f) no_void no_fun no_const = absurd (no_fun f refl)
+  no_void (ty.Const u) no_void no_fun no_const = absurd (no_const u refl)
+  no_void v no_void no_fun no_const = refl
+
+  pub no_reference : (v : Ty) → ((u : ℕ) → v ≡ ty.Ref u → ⊥) → ((u : ℕ) → v ≡ ty.Const u → ⊥) → false ≡ is_reference (type_step tables (type_of tables) v)
+  no_reference (ty.Ref u) no_ref no_const = absurd (no_ref u refl)
+  no_reference (ty.Const u) no_ref no_const = absurd (no_const u refl)
+  no_reference (ty.Fun f) no_ref no_const = sym (reference-fun (type_of tables) (slice_get tables.types.funs f))
+  no_reference v no_ref no_const = refl
+
+  pub no_const : (v : Ty) → ((u : ℕ) → v ≡ ty.Const u → ⊥) → false ≡ is_const (type_step tables (type_of tables) v)
+  no_const (ty.Const u) none = absurd (none u refl)
+  no_const (ty.Fun f) none = sym (const-fun (type_of tables) (slice_get tables.types.funs f))
+  no_const v none = refl
+
+  pub well_by_others : (v : Ty) → ((u : ℕ) → v ≡ ty.Const u → ⊥) → true ≡ names_well (type_step tables (type_of tables) v)
+  well_by_others (ty.Const u) none = absurd (none u refl)
+  well_by_others (ty.Fun f) none = sym (well-fun (type_of tables) (slice_get tables.types.funs f))
+  well_by_others v none = refl
+
+  pub no_scalar : (v : Ty) → ((k : Kind) → v ≡ ty.Int k → ⊥) → ((e : ℕ) → v ≡ ty.Enum e → ⊥) → ((u : ℕ) → v ≡ ty.Ptr u → ⊥) → ((u : ℕ) → v ≡ ty.Ref u → ⊥)
+      → ((u : ℕ) → v ≡ ty.Const u → ⊥) → false ≡ is_some (sort_of (type_step tables (type_of tables) v))
+  no_scalar (ty.Int k) no_int no_enum no_ptr no_ref no_const = absurd (no_int k refl)
+  no_scalar (ty.Enum e) no_int no_enum no_ptr no_ref no_const = absurd (no_enum e refl)
+  no_scalar (ty.Ptr u) no_int no_enum no_ptr no_ref no_const = absurd (no_ptr u refl)
+  no_scalar (ty.Ref u) no_int no_enum no_ptr no_ref no_const = absurd (no_ref u refl)
+  no_scalar (ty.Const u) no_int no_enum no_ptr no_ref no_const = absurd (no_const u refl)
+  no_scalar (ty.Fun f) no_int no_enum no_ptr no_ref no_const = sym (scalar-fun (type_of tables) (slice_get tables.types.funs f))
+  no_scalar v no_int no_enum no_ptr no_ref no_const = refl
+
+  pub bytes_by_others : (v : Ty) → ((c : ℕ) → v ≡ ty.Class c → ⊥) → ((u n : ℕ) → v ≡ ty.Array u n → ⊥) → ((u : ℕ) → v ≡ ty.Const u → ⊥)
+      → true ≡ has_bytes (type_step tables (type_of tables) v)
+  bytes_by_others (ty.Class c) no_class no_array no_const = absurd (no_class c refl)
+  bytes_by_others (ty.Array u n) no_class no_array no_const = absurd (no_array u n refl)
+  bytes_by_others (ty.Const u) no_class no_array no_const = absurd (no_const u refl)
+  bytes_by_others (ty.Fun f) no_class no_array no_const = sym (bytes-fun (type_of tables) (slice_get tables.types.funs f))
+  bytes_by_others v no_class no_array no_const = refl
+
+  pub once_by_others : (v : Ty) → ((u n : ℕ) → v ≡ ty.Array u n → ⊥) → ((u : ℕ) → v ≡ ty.Const u → ⊥) → true ≡ const_once (type_step tables (type_of tables) v)
+  once_by_others (ty.Array u n) no_array no_const = absurd (no_array u n refl)
+  once_by_others (ty.Const u) no_array no_const = absurd (no_const u refl)
+  once_by_others (ty.Fun f) no_array no_const = sym (once-fun (type_of tables) (slice_get tables.types.funs f))
+  once_by_others v no_array no_const = refl
+
+  pub lowered_by_others : (v : Ty) → ((u : ℕ) → v ≡ ty.Ptr u → ⊥) → ((u : ℕ) → v ≡ ty.Ref u → ⊥) → ((u n : ℕ) → v ≡ ty.Array u n → ⊥) → ((f : ℕ) → v ≡ ty.Fun f → ⊥)
+      → ((c u : ℕ) → v ≡ ty.MemData c u → ⊥) → ((c f : ℕ) → v ≡ ty.MemFun c f → ⊥) → ((u : ℕ) → v ≡ ty.Const u → ⊥) → true ≡ is_lowered (type_step tables (type_of tables) v)
+  lowered_by_others (ty.Ptr u) p r a f d m c = absurd (p u refl)
+  lowered_by_others (ty.Ref u) p r a f d m c = absurd (r u refl)
+  lowered_by_others (ty.Array u n) p r a f d m c = absurd (a u n refl)
+  lowered_by_others (ty.Fun g) p r a f d m c = absurd (f g refl)
+  lowered_by_others (ty.MemData k u) p r a f d m c = absurd (d k u refl)
+  lowered_by_others (ty.MemFun k g) p r a f d m c = absurd (m k g refl)
+  lowered_by_others (ty.Const u) p r a f d m c = absurd (c u refl)
+  lowered_by_others v p r a f d m c = refl
+
+  pub no_parameters : (v : Ty) → ((f : ℕ) → v ≡ ty.Fun f → ⊥) → [] ≡ parameters (type_step tables (type_of tables) v)
+  no_parameters (ty.Fun f) none = absurd (none f refl)
+  no_parameters v none = refl
+
+  pub nothing_given : (v : Ty) → ((f : ℕ) → v ≡ ty.Fun f → ⊥) → true ≡ gives_scalar (type_step tables (type_of tables) v)
+  nothing_given (ty.Fun f) none = absurd (none f refl)
+  nothing_given v none = refl
+
+  -- ---- functions that were found
+
+  module _ (t f : ℕ) (v : Ty) (g : Fun) (value : type_of tables t ≡ type_step tables (type_of tables) v) (is : v ≡ ty.Fun f) (there : slice_get tables.types.funs f ≡ Some g) where
+    pub is_taking : type_of tables t ≡ taking (map (type_of tables) g.params) (gives (type_of tables g.result) g.is_const)
+    is_taking = value ∙ ap (type_step tables (type_of tables)) is ∙ ap (fun_type (type_of tables)) there
+
+    pub lowered_by_fun : is_lowered (type_of tables t) ≡ (list_all is_lowered (map (type_of tables) g.params) && is_lowered (type_of tables g.result))
+    lowered_by_fun = ap is_lowered is_taking ∙ lowered-taking (type_of tables g.result) g.is_const (map (type_of tables) g.params)
+
+    pub parameters_by_fun : map (type_of tables) g.params ≡ parameters (type_of tables t)
+    parameters_by_fun = sym (ap parameters is_taking ∙ parameters-taking (type_of tables g.result) g.is_const (map (type_of tables) g.params))
+
+    pub gives_by_fun : gives_scalar (type_of tables t) ≡ (is_void (type_of tables g.result) || is_some (sort_of (type_of tables g.result)))
+    gives_by_fun = ap gives_scalar is_taking ∙ ap (λ u. is_void u || is_some (sort_of u)) (result-taking (type_of tables g.result) g.is_const (map (type_of tables) g.params))
