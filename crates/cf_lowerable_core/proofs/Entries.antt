@@ -14,7 +14,8 @@ use Rattle.cf_lower_kept.specs.Ready.{is_code, names_well}
 use Rattle.cf_lower_layout.specs.Layout.{has_bytes, const_once}
 use Rattle.cf_lower_layout.specs.Sorts.{sort_of, scalar_sort}
 use Rattle.cf_lower_program.specs.Types.{is_laid, is_lowered}
-use Rattle.cf_lowerable_core.specs.Looks.{gives_scalar}
+use Rattle.cf_sequence_lowered.specs.Types.{is_of_function}
+use Rattle.cf_lowerable_core.specs.Looks.{signature_looks}
 
 -- ---- the forms of functions
 
@@ -66,6 +67,21 @@ module _ (r : SourceType) (b : Bool) where
   result-taking : (ps : List SourceType) → result (taking ps (gives r b)) ≡ r
   result-taking [] = refl
   result-taking (p ∷ ps) = result-taking ps
+
+  pub by_signature : (ps : List SourceType) → signature_looks ps r ≡ is_of_function (taking ps (gives r b))
+  by_signature ps =
+      let t = taking ps (gives r b) in
+      sym
+      (ap (λ c. c && (((nat_le (length (parameters t)) (2 ^ 64) && list_all (λ p. is_some (sort_of p)) (parameters t)) && (is_void (result t) || is_some (sort_of (result t)))) && list_all is_laid (parameters t)))
+      (lowered-taking ps)
+      ∙ ap (λ (l : List SourceType). (list_all is_lowered ps && is_lowered r) && (((nat_le (length l) (2 ^ 64) && list_all (λ p. is_some (sort_of p)) l) && (is_void (result t) || is_some (sort_of (result t)))) && list_all is_laid l))
+      (parameters-taking ps)
+      ∙ ap (λ (u : SourceType). (list_all is_lowered ps && is_lowered r) && (((nat_le (length ps) (2 ^ 64) && list_all (λ p. is_some (sort_of p)) ps) && (is_void u || is_some (sort_of u))) && list_all is_laid ps))
+      (result-taking ps))
+
+and-true : (b : Bool) → b ≡ (b && true)
+and-true true = refl
+and-true false = refl
 
 -- a function type that is there
 module _ (rec : ℕ → SourceType) where
@@ -194,9 +210,9 @@ module _ (tables : Tables) where
   no_parameters (ty.Fun f) none = absurd (none f refl)
   no_parameters v none = refl
 
-  pub nothing_given : (v : Ty) → ((f : ℕ) → v ≡ ty.Fun f → ⊥) → true ≡ gives_scalar (type_step tables (type_of tables) v)
-  nothing_given (ty.Fun f) none = absurd (none f refl)
-  nothing_given v none = refl
+  pub no_function : (v : Ty) → ((f : ℕ) → v ≡ ty.Fun f → ⊥) → is_lowered (type_step tables (type_of tables) v) ≡ is_of_function (type_step tables (type_of tables) v)
+  no_function (ty.Fun f) none = absurd (none f refl)
+  no_function v none = and-true (is_lowered (type_step tables (type_of tables) v))
 
   -- ---- functions that were found
 
@@ -210,5 +226,5 @@ module _ (tables : Tables) where
     pub parameters_by_fun : map (type_of tables) g.params ≡ parameters (type_of tables t)
     parameters_by_fun = sym (ap parameters is_taking ∙ parameters-taking (type_of tables g.result) g.is_const (map (type_of tables) g.params))
 
-    pub gives_by_fun : gives_scalar (type_of tables t) ≡ (is_void (type_of tables g.result) || is_some (sort_of (type_of tables g.result)))
-    gives_by_fun = ap gives_scalar is_taking ∙ ap (λ u. is_void u || is_some (sort_of u)) (result-taking (type_of tables g.result) g.is_const (map (type_of tables) g.params))
+    pub function_by_fun : signature_looks (map (type_of tables) g.params) (type_of tables g.result) ≡ is_of_function (type_of tables t)
+    function_by_fun = by_signature (type_of tables g.result) g.is_const (map (type_of tables) g.params) ∙ sym (ap is_of_function is_taking)

@@ -1,19 +1,33 @@
 -- The tests that need neither names nor the types of expressions, function by function and object by object.
-use Rattle.std.specs.Prelude.{◌≡◌, Bool, true, ◌&&◌, ◌||◌, not, ℤ, is_some}
+use Rattle.std.specs.Prelude.{◌≡◌, ◌^◌, Bool, true, ◌&&◌, ◌||◌, not, nat_le, ℤ, List, length, is_some}
 use Rattle.std.specs.List.{list_all}
 use Rattle.cf_core.specs.Core.{Core, case_label, Function, Static, CoreFile}
 use Rattle.cf_core.specs.Nodes.{nodes}
-use Rattle.cf_core.specs.Types.{SourceType, is_void, result}
+use Rattle.cf_core.specs.Types.{SourceType, is_void}
 use Rattle.cf_lower_layout.specs.Sorts.{sort_of}
+use Rattle.cf_lower_program.specs.Types.{is_laid, is_lowered}
 use Rattle.cf_sequence_lowered.specs.Counts.{is_small, all_small, none_shared_and_local}
 use Rattle.cf_sequence_lowered.specs.Labels.{labels_agree, all_labels_agree}
 use Rattle.cf_sequence_lowered.specs.Operators.{operand_is_promoted, operands_are_promoted}
 use Rattle.cf_sequence_lowered.specs.Texts.{literal_fits, literals_fit}
 use Rattle.cf_sequence_lowered.specs.Types.{is_of_object, is_of_function, is_of_static, node_types_fit, core_types_fit}
 
--- whether what a function of this type gives is a scalar, or nothing
+-- Whether a function may be named or called, by the types of its parameters and of its result.
+
 abbrev pub gives_scalar : SourceType → Bool
-gives_scalar t = is_void (result t) || is_some (sort_of (result t))
+gives_scalar r = is_void r || is_some (sort_of r)
+
+abbrev pub takes_scalars : List SourceType → Bool
+takes_scalars ps = nat_le (length ps) (2 ^ 64) && list_all (λ p. is_some (sort_of p)) ps
+
+abbrev pub parts_are_scalars : List SourceType → SourceType → Bool
+parts_are_scalars ps r = takes_scalars ps && gives_scalar r
+
+abbrev pub parts_are_laid : List SourceType → SourceType → Bool
+parts_are_laid ps r = parts_are_scalars ps r && list_all is_laid ps
+
+abbrev pub signature_looks : List SourceType → SourceType → Bool
+signature_looks ps r = (list_all is_lowered ps && is_lowered r) && parts_are_laid ps r
 
 -- a test of the number of a label
 abbrev pub label_passes : (ℤ → Bool) → Core → Bool

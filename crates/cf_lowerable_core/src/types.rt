@@ -1,13 +1,12 @@
 //! What is asked of types. A number that the file's table does not have stands for `void`, so nothing is asked of numbers.
 
-ghost use Rattle.std.specs.Prelude.{◌≡◌, [], false, length, is_some, map};
+ghost use Rattle.std.specs.Prelude.{◌≡◌, ◌&&◌, ◌^◌, [], length, is_some, map, nat_le};
 ghost use Rattle.std.specs.List.{list_all};
 ghost use Rattle.cf_types.specs.Table.{Names, NamesBelow};
-ghost use Rattle.cf_core.specs.FromTypes.{type_of, type_step, taking};
+ghost use Rattle.cf_core.specs.FromTypes.{type_of, type_step};
 ghost use Rattle.cf_core.specs.FromUnit.{tables_of};
 ghost use Rattle.cf_core.specs.Places as places;
 ghost use Rattle.cf_core.specs.Types as types;
-ghost use Rattle.cf_core.specs.Types.{gives};
 ghost use Rattle.cf_lower_kept.specs.Ready as ready;
 ghost use Rattle.cf_lower_layout.specs.Layout as layout;
 ghost use Rattle.cf_lower_layout.specs.Sorts.{sort_of};
@@ -105,7 +104,12 @@ fn has_bytes(unit: &CoreUnit, id: TyId) -> bool
 {
     match entry(unit, id) {
         Ty::Class(_) => false,
-        Ty::Array(element, count) => 0 < count && has_bytes(unit, element),
+        Ty::Array(element, count) => {
+            if count == 0 {
+                return false;
+            }
+            has_bytes(unit, element)
+        }
         Ty::Const(inner) => has_bytes(unit, inner),
         _ => true,
     }
@@ -117,7 +121,12 @@ fn const_once(unit: &CoreUnit, id: TyId) -> bool
 {
     match entry(unit, id) {
         Ty::Array(element, _) => const_once(unit, element),
-        Ty::Const(inner) => !is_const(unit, inner) && const_once(unit, inner),
+        Ty::Const(inner) => {
+            if is_const(unit, inner) {
+                return false;
+            }
+            const_once(unit, inner)
+        }
         _ => true,
     }
 }
@@ -139,7 +148,12 @@ pub(crate) fn is_lowered(unit: &CoreUnit, id: TyId) -> bool
     match entry(unit, id) {
         Ty::Ptr(target) => is_lowered(unit, target),
         Ty::Ref(target) => is_lowered(unit, target),
-        Ty::Array(element, _) => is_laid(unit, id) && is_lowered(unit, element),
+        Ty::Array(element, _) => {
+            if !is_laid(unit, id) {
+                return false;
+            }
+            is_lowered(unit, element)
+        }
         Ty::Fun(function) => {
             let fun = unit.fun(function);
             for parameter in fun.params.as_slice() {
@@ -151,7 +165,12 @@ pub(crate) fn is_lowered(unit: &CoreUnit, id: TyId) -> bool
         }
         Ty::MemData(_, _) => false,
         Ty::MemFun(_, _) => false,
-        Ty::Const(inner) => !is_code(unit, inner) && is_lowered(unit, inner),
+        Ty::Const(inner) => {
+            if is_code(unit, inner) {
+                return false;
+            }
+            is_lowered(unit, inner)
+        }
         _ => true,
     }
 }
@@ -163,19 +182,6 @@ pub(crate) fn parameters<'a>(unit: &'a CoreUnit, id: TyId) -> &'a [TyId]
     match entry(unit, id) {
         Ty::Fun(function) => unit.fun(function).params.as_slice(),
         _ => &[],
-    }
-}
-
-/// Whether a function of this type gives a scalar or nothing. Another type counts as one that gives nothing.
-fn gives_scalar(unit: &CoreUnit, id: TyId) -> bool
-    ensures { result ≡ looks.gives_scalar (type_of (tables_of unit.now) id) }
-{
-    match entry(unit, id) {
-        Ty::Fun(function) => {
-            let given = unit.fun(function).result;
-            is_void(unit, given) || is_scalar(unit, given)
-        }
-        _ => true,
     }
 }
 
@@ -204,27 +210,12 @@ fn are_laid(unit: &CoreUnit, ids: &[TyId]) -> bool
     true
 }
 
-/// Whether the parameters of a function of this type are scalars, and what it gives is one or nothing.
-fn is_callable(unit: &CoreUnit, id: TyId) -> bool
-    ensures { result ≡ lowered.is_callable (type_of (tables_of unit.now) id) }
-{
-    are_scalars(unit, parameters(unit, id)) && gives_scalar(unit, id)
-}
-
 /// Whether an object may be of this type.
 pub(crate) fn is_of_object(unit: &CoreUnit, id: TyId) -> bool
     requires { unit.now.classes.defined ≡ [] }
     ensures { result ≡ asked.is_of_object (type_of (tables_of unit.now) id) }
 {
     is_lowered(unit, id) && is_laid(unit, id)
-}
-
-/// Whether a function that is named or called may be of this type.
-pub(crate) fn is_of_function(unit: &CoreUnit, id: TyId) -> bool
-    requires { unit.now.classes.defined ≡ [] }
-    ensures { result ≡ asked.is_of_function (type_of (tables_of unit.now) id) }
-{
-    is_lowered(unit, id) && is_callable(unit, id) && are_laid(unit, parameters(unit, id))
 }
 
 /// Whether a static object may be of this type.
@@ -248,14 +239,69 @@ fn are_lowered(unit: &CoreUnit, ids: &[TyId]) -> bool
     true
 }
 
-/// Whether a function of these parameters, which gives this, may be named or called.
+/// Whether there are no more of them than numbers of 64 bits, as is always so.
+fn are_few(ids: &[TyId]) -> bool
+    ensures { result ≡ nat_le (length ids.now) (2 ^ 64) }
+{
+    let _count = ids.len();
+    true
+}
+
+/// Whether parameters of these types, and a result of this one, are lowered.
+fn parts_are_lowered(unit: &CoreUnit, ids: &[TyId], given: TyId) -> bool
+    requires { unit.now.classes.defined ≡ [] }
+    ensures { result ≡ (list_all lowered.is_lowered (map (type_of (tables_of unit.now)) ids.now) && lowered.is_lowered (type_of (tables_of unit.now) given)) }
+{
+    are_lowered(unit, ids) && is_lowered(unit, given)
+}
+
+/// Whether a function gives a scalar or nothing, by the type of its result.
+fn gives_scalar(unit: &CoreUnit, given: TyId) -> bool
+    ensures { result ≡ looks.gives_scalar (type_of (tables_of unit.now) given) }
+{
+    is_void(unit, given) || is_scalar(unit, given)
+}
+
+/// Whether a function takes scalars.
+fn takes_scalars(unit: &CoreUnit, ids: &[TyId]) -> bool
+    ensures { result ≡ looks.takes_scalars (map (type_of (tables_of unit.now)) ids.now) }
+{
+    are_few(ids) && are_scalars(unit, ids)
+}
+
+/// Whether it takes and gives scalars.
+fn parts_are_scalars(unit: &CoreUnit, ids: &[TyId], given: TyId) -> bool
+    ensures { result ≡ looks.parts_are_scalars (map (type_of (tables_of unit.now)) ids.now) (type_of (tables_of unit.now) given) }
+{
+    takes_scalars(unit, ids) && gives_scalar(unit, given)
+}
+
+/// Whether it takes and gives scalars, and the objects of its parameters are laid out.
+fn parts_are_laid(unit: &CoreUnit, ids: &[TyId], given: TyId) -> bool
+    requires { unit.now.classes.defined ≡ [] }
+    ensures { result ≡ looks.parts_are_laid (map (type_of (tables_of unit.now)) ids.now) (type_of (tables_of unit.now) given) }
+{
+    parts_are_scalars(unit, ids, given) && are_laid(unit, ids)
+}
+
+/// Whether a function of parameters of these types, which gives this one, may be named or called.
 pub(crate) fn signature_fits(unit: &CoreUnit, ids: &[TyId], given: TyId) -> bool
     requires { unit.now.classes.defined ≡ [] }
-    ensures { result ≡ asked.is_of_function (taking (map (type_of (tables_of unit.now)) ids.now) (gives (type_of (tables_of unit.now) given) false)) }
+    ensures { result ≡ looks.signature_looks (map (type_of (tables_of unit.now)) ids.now) (type_of (tables_of unit.now) given) }
 {
-    are_lowered(unit, ids)
-        && is_lowered(unit, given)
-        && are_scalars(unit, ids)
-        && (is_void(unit, given) || is_scalar(unit, given))
-        && are_laid(unit, ids)
+    parts_are_lowered(unit, ids, given) && parts_are_laid(unit, ids, given)
+}
+
+/// Whether a function that is named or called may be of this type.
+pub(crate) fn is_of_function(unit: &CoreUnit, id: TyId) -> bool
+    requires { unit.now.classes.defined ≡ [] }
+    ensures { result ≡ asked.is_of_function (type_of (tables_of unit.now) id) }
+{
+    match entry(unit, id) {
+        Ty::Fun(function) => {
+            let fun = unit.fun(function);
+            signature_fits(unit, fun.params.as_slice(), fun.result)
+        }
+        _ => is_lowered(unit, id),
+    }
 }

@@ -72,7 +72,10 @@ fn parts<'a>(e: &'a Core, all: &mut Vec<&'a Core>) -> Result<(), Memory>
         | Core::Bind { operand: a, .. }
         | Core::Full { expression: a, .. }
         | Core::Declare { start: a, .. }
-        | Core::Once { start: a, .. } => node(a.get(), all),
+        | Core::Once { start: a, .. } => {
+            node(a.get(), all)?;
+            Ok(())
+        }
         Core::Index { left: a, right: b, .. }
         | Core::Through { object: a, pointer: b, .. }
         | Core::Operate { left: a, right: b, .. }
@@ -81,74 +84,75 @@ fn parts<'a>(e: &'a Core, all: &mut Vec<&'a Core>) -> Result<(), Memory>
         | Core::PointerOperate { left: a, right: b, .. }
         | Core::Store { place: a, value: b, .. }
         | Core::Update { place: a, value: b, .. }
-        | Core::NewArray { count: a, start: b, .. } => two(a.get(), b.get(), all),
+        | Core::NewArray { count: a, start: b, .. } => {
+            node(a.get(), all)?;
+            node(b.get(), all)?;
+            Ok(())
+        }
         Core::Conditional { condition, yes, no, .. } => {
             node(condition.get(), all)?;
-            two(yes.get(), no.get(), all)
+            node(yes.get(), all)?;
+            node(no.get(), all)?;
+            Ok(())
         }
         Core::Comma { operands: es, .. }
         | Core::Build { arguments: es, .. }
         | Core::Block { statements: es, .. }
-        | Core::Sequence { statements: es, .. } => each(es.as_slice(), all),
+        | Core::Sequence { statements: es, .. } => {
+            each(es.as_slice(), all)?;
+            Ok(())
+        }
         Core::Assign { to, from, further, .. } => {
             node(to.get(), all)?;
-            first_and_each(from.get(), further.as_slice(), all)
+            node(from.get(), all)?;
+            each(further.as_slice(), all)?;
+            Ok(())
         }
         Core::Call { object, arguments, .. } => {
             optional(object, all)?;
-            each(arguments.as_slice(), all)
+            each(arguments.as_slice(), all)?;
+            Ok(())
         }
         Core::VirtualCall { object: a, arguments: es, .. }
         | Core::Copy { from: a, further: es, .. }
         | Core::Switch { operand: a, body: es, .. } => {
-            first_and_each(a.get(), es.as_slice(), all)
+            node(a.get(), all)?;
+            each(es.as_slice(), all)?;
+            Ok(())
         }
         Core::PointerCall { object, pointer, arguments, .. } => {
             optional(object, all)?;
-            first_and_each(pointer.get(), arguments.as_slice(), all)
+            node(pointer.get(), all)?;
+            each(arguments.as_slice(), all)?;
+            Ok(())
         }
         Core::List { starts, rest, .. } => {
             each(starts.as_slice(), all)?;
-            node(rest.get(), all)
+            node(rest.get(), all)?;
+            Ok(())
         }
         Core::If { condition, yes, no, .. } => {
             node(condition.get(), all)?;
             node(yes.get(), all)?;
-            optional(no, all)
+            optional(no, all)?;
+            Ok(())
         }
         Core::Loop { condition, step, body, .. } => {
             optional(condition, all)?;
             optional(step, all)?;
-            node(body.get(), all)
+            node(body.get(), all)?;
+            Ok(())
         }
-        Core::Return { value, .. } => optional(value, all),
+        Core::Return { value, .. } => {
+            optional(value, all)?;
+            Ok(())
+        }
         Core::Parts { parts, body, .. } => {
             each_part(parts.as_slice(), all)?;
-            node(body.get(), all)
+            node(body.get(), all)?;
+            Ok(())
         }
     }
-}
-
-/// Two of them.
-#[cycle(walk)]
-fn two<'a>(a: &'a Core, b: &'a Core, all: &mut Vec<&'a Core>) -> Result<(), Memory>
-    ensures { (tables : Tables) → OnOk result (shown tables all.new.items ≡ shown tables all.old.items ++ nodes (view tables a.now) ++ nodes (view tables b.now)) }
-{
-    node(a, all)?;
-    node(b, all)
-}
-
-/// One, and others in order.
-#[cycle(walk)]
-fn first_and_each<'a>(
-    a: &'a Core,
-    es: &'a [Core],
-    all: &mut Vec<&'a Core>,
-) -> Result<(), Memory>
-    ensures { (tables : Tables) → OnOk result (shown tables all.new.items ≡ shown tables all.old.items ++ nodes (view tables a.now) ++ nodes_all (viewed tables es.now)) }
-{
-    node(a, all)?;
-    each(es, all)
 }
 
 /// One that may be there.
@@ -158,7 +162,10 @@ fn optional<'a>(e: &'a Option<Boxed<Core>>, all: &mut Vec<&'a Core>) -> Result<(
 {
     match e {
         None => Ok(()),
-        Some(e) => node(e.get(), all),
+        Some(e) => {
+            node(e.get(), all)?;
+            Ok(())
+        }
     }
 }
 
