@@ -60,7 +60,7 @@ module _ (r : SourceType) (b : Bool) where
       both-ways true y z = refl
       both-ways false y z = refl
 
-  parameters-taking : (ps : List SourceType) → parameters (taking ps (gives r b)) ≡ ps
+  pub parameters-taking : (ps : List SourceType) → parameters (taking ps (gives r b)) ≡ ps
   parameters-taking [] = refl
   parameters-taking (p ∷ ps) = ap (λ l. p ∷ l) (parameters-taking ps)
 
@@ -150,10 +150,10 @@ module _ (tables : Tables) where
   no_code v no_fun no_const = refl
 
   pub no_void : (v : Ty) → (v ≡ ty.Void → ⊥) → ((f : ℕ) → v ≡ ty.Fun f → ⊥) → ((u : ℕ) → v ≡ ty.Const u → ⊥) → false ≡ is_void (type_step tables (type_of tables) v)
-  no_void ty.Void no_void no_fun no_const = absurd (no_void refl)
-  no_void (ty.Fun f) no_void no_fun no_const = absurd (no_fun f refl)
-  no_void (ty.Const u) no_void no_fun no_const = absurd (no_const u refl)
-  no_void v no_void no_fun no_const = refl
+  no_void ty.Void none no_fun no_const = absurd (none refl)
+  no_void (ty.Fun f) none no_fun no_const = absurd (no_fun f refl)
+  no_void (ty.Const u) none no_fun no_const = absurd (no_const u refl)
+  no_void v none no_fun no_const = refl
 
   pub no_reference : (v : Ty) → ((u : ℕ) → v ≡ ty.Ref u → ⊥) → ((u : ℕ) → v ≡ ty.Const u → ⊥) → false ≡ is_reference (type_step tables (type_of tables) v)
   no_reference (ty.Ref u) no_ref no_const = absurd (no_ref u refl)
@@ -228,3 +228,15 @@ module _ (tables : Tables) where
 
     pub function_by_fun : signature_looks (map (type_of tables) g.params) (type_of tables g.result) ≡ is_of_function (type_of tables t)
     function_by_fun = by_signature (type_of tables g.result) g.is_const (map (type_of tables) g.params) ∙ sym (ap is_of_function is_taking)
+
+    pub result_before : Names tables.types.funs t (length tables.types.funs) v → g.result < t
+    result_before names =
+        let known : Names tables.types.funs t (length tables.types.funs) (ty.Fun f) = subst (Names tables.types.funs t (length tables.types.funs)) is names in
+        let all : All (λ p. p < t) (parts_of_fun (Some g)) = subst (λ (o : Option Fun). All (λ p. p < t) (parts_of_fun o)) there known.parts_known in
+        all 0 0 (omega arith)
+
+    pub parameter_before : Names tables.types.funs t (length tables.types.funs) v → (i p : ℕ) → i < length g.params → p ≡ get_or g.params i p → p < t
+    parameter_before names i p within at =
+        let known : Names tables.types.funs t (length tables.types.funs) (ty.Fun f) = subst (Names tables.types.funs t (length tables.types.funs)) is names in
+        let all : All (λ p. p < t) (parts_of_fun (Some g)) = subst (λ (o : Option Fun). All (λ p. p < t) (parts_of_fun o)) there known.parts_known in
+        subst (λ n. n < t) (sym at) (all (suc i) p (omega (arith, within)))

@@ -1,3 +1,7 @@
 pub mod Entries
 pub mod Sizes
+pub mod LabelLaws
+pub mod NameLaws
+pub mod TextLaws
+pub mod Counts
 pub mod Together

@@ -1,5 +1,5 @@
 -- Objects of a file without classes are within the limit on sizes.
-use Rattle.std.proofs.Common.{◌≡◌, ◌∙◌, ℕ, ◌<◌, ◌≤◌, ◌^◌, Bool, true, ◌&&◌, List, [], length, ap, sym, subst, arith}
+use Rattle.std.proofs.Common.{◌≡◌, ◌∙◌, ℕ, ◌<◌, ◌≤◌, ◌^◌, Bool, true, false, ◌&&◌, List, [], length, ap, refl, sym, subst, arith}
 use Rattle.std.specs.Prelude.{nat_le}
 use Rattle.std.proofs.lemmas.Bool.Decides.{nat_tests}
 use Rattle.cf_core.specs.Classes.{Class}
@@ -20,7 +20,7 @@ module _ (unit : Unit) (valid : IsValid unit) (none : unit.classes.defined ≡ [
   known-small t lt = subst (λ (cs : List Class). size cs (type_of (tables_of unit) t) ≤ 2 ^ 22) (ap (classes_in (tables_of unit)) none) (valid.limits.sizes t lt)
 
   unknown-small : (t : ℕ) → length unit.types.types ≤ t → size [] (type_of (tables_of unit) t) ≤ 2 ^ 22
-  unknown-small t le = subst (λ (u : SourceType). size [] u ≤ 2 ^ 22) (sym (missing (tables_of unit) t le)) (omega arith)
+  unknown-small t le = subst (λ (u : SourceType). size [] u ≤ 2 ^ 22) (sym (missing (tables_of unit) t le)) (let one : size [] void ≡ 1 = refl in omega (arith, one))
 
   pub all_small : (t : ℕ) → size [] (type_of (tables_of unit) t) ≤ 2 ^ 22
   all_small t = by (nat_le (length unit.types.types) t) refl

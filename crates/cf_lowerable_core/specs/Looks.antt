@@ -1,5 +1,5 @@
 -- The tests that need neither names nor the types of expressions, function by function and object by object.
-use Rattle.std.specs.Prelude.{◌≡◌, ◌^◌, Bool, true, ◌&&◌, ◌||◌, not, nat_le, ℤ, List, length, is_some}
+use Rattle.std.specs.Prelude.{◌≡◌, ℕ, ◌^◌, Bool, true, ◌&&◌, ◌||◌, not, nat_le, ◌==◌, ℤ, List, [], ◌∷◌, length, is_some}
 use Rattle.std.specs.List.{list_all}
 use Rattle.cf_core.specs.Core.{Core, case_label, Function, Static, CoreFile}
 use Rattle.cf_core.specs.Nodes.{nodes}
@@ -29,6 +29,11 @@ parts_are_laid ps r = parts_are_scalars ps r && list_all is_laid ps
 abbrev pub signature_looks : List SourceType → SourceType → Bool
 signature_looks ps r = (list_all is_lowered ps && is_lowered r) && parts_are_laid ps r
 
+-- whether the last of these is 0, or this where there is none
+abbrev pub ends_in_zero : Bool → List ℕ → Bool
+ends_in_zero before [] = before
+ends_in_zero before (b ∷ bytes) = ends_in_zero (b == 0) bytes
+
 -- a test of the number of a label
 abbrev pub label_passes : (ℤ → Bool) → Core → Bool
 label_passes test (case_label z) = test z
@@ -37,6 +42,9 @@ label_passes test e = true
 -- a node of a function
 abbrev pub node_looks : Core → Bool
 node_looks e = node_types_fit e && (literal_fits e && labels_agree e)
+
+abbrev pub type_of_function : Function → SourceType
+type_of_function f = f.type
 
 abbrev pub head_looks : Function → Bool
 head_looks f = is_of_function f.type && (list_all is_of_object f.locals && not (f.is_shared && f.is_local))

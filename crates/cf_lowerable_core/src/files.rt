@@ -98,8 +98,11 @@ fn are_few(unit: &CoreUnit, nodes: &[&Core], others: usize) -> bool
 {
     let mut count = others;
     for e in nodes {
+        if count >= MOST {
+            return false;
+        }
         let more = made_by(unit, *e);
-        if count >= MOST || more >= MOST {
+        if more >= MOST {
             return false;
         }
         count += more;
@@ -112,10 +115,23 @@ fn is_small(unit: &CoreUnit, f: &CoreFn, nodes: &[&Core]) -> bool
     requires { shown (tables_of unit.now) nodes.now ≡ nodes_in (view (tables_of unit.now) f.now.body) }
     ensures { result ≡ counts.is_small (function_of (tables_of unit.now) f.now) }
 {
-    if f.params.len() >= MOST || f.locals.len() >= MOST {
+    let params = f.params.len();
+    let locals = f.locals.len();
+    if params >= MOST {
         return false;
     }
-    nodes.len() < MOST && are_few(unit, nodes, f.params.len() + f.locals.len())
+    if locals >= MOST {
+        return false;
+    }
+    nodes.len() < MOST && are_few(unit, nodes, params + locals)
+}
+
+/// Whether a function has a type that is lowered.
+fn function_fits(unit: &CoreUnit, f: &CoreFn) -> bool
+    requires { unit.now.classes.defined ≡ [] }
+    ensures { result ≡ asked.is_of_function (spec.type_of_function (function_of (tables_of unit.now) f.now)) }
+{
+    signature_fits(unit, f.params.as_slice(), f.result)
 }
 
 /// Whether a function and its locals have types that are lowered, and it is not shared and local at once (3.3).
@@ -123,7 +139,7 @@ fn head_looks(unit: &CoreUnit, f: &CoreFn) -> bool
     requires { unit.now.classes.defined ≡ [] }
     ensures { result ≡ spec.head_looks (function_of (tables_of unit.now) f.now) }
 {
-    signature_fits(unit, f.params.as_slice(), f.result)
+    function_fits(unit, f)
         && are_objects(unit, f.locals.as_slice())
         && !(f.is_shared && f.is_local)
 }

@@ -1,6 +1,6 @@
 //! What is asked of each node of a file.
 
-ghost use Rattle.std.specs.Prelude.{◌≡◌, []};
+ghost use Rattle.std.specs.Prelude.{◌≡◌, [], false};
 ghost use Rattle.std.specs.List.{list_all};
 ghost use Rattle.cf_base.specs.Integers as integers;
 ghost use Rattle.cf_base.specs.declared.kind.Kind.TheVariants.{Int, UInt};
@@ -49,15 +49,22 @@ pub(crate) fn node_types_fit(unit: &CoreUnit, e: &Core) -> bool
     }
 }
 
-/// Whether bytes end in 0.
+/// Whether the last byte, if there is one, is 0.
+fn ends_in_zero(bytes: &[u8]) -> bool
+    ensures { result ≡ looks.ends_in_zero false bytes.now }
+{
+    let mut ends = false;
+    for byte in bytes {
+        ends = *byte == 0;
+    }
+    ends
+}
+
+/// Whether these are bytes of which 0 is the last.
 fn is_text(bytes: &[u8]) -> bool
     ensures { result ≡ starts.is_text bytes.now }
 {
-    match bytes {
-        [] => false,
-        [byte] => *byte == 0,
-        [_, rest @ ..] => is_text(rest),
-    }
+    ends_in_zero(bytes)
 }
 
 /// Whether a literal ends in 0 and is not too long.

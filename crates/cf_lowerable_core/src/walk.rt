@@ -76,20 +76,61 @@ fn parts<'a>(e: &'a Core, all: &mut Vec<&'a Core>) -> Result<(), Memory>
             node(a.get(), all)?;
             Ok(())
         }
-        Core::Index { left: a, right: b, .. }
-        | Core::Through { object: a, pointer: b, .. }
-        | Core::Operate { left: a, right: b, .. }
-        | Core::And { left: a, right: b, .. }
-        | Core::Or { left: a, right: b, .. }
-        | Core::PointerOperate { left: a, right: b, .. }
-        | Core::Store { place: a, value: b, .. }
-        | Core::Update { place: a, value: b, .. }
-        | Core::NewArray { count: a, start: b, .. } => {
+        Core::Index {
+            left: a,
+            right: b,
+            ..
+        }
+        | Core::Through {
+            object: a,
+            pointer: b,
+            ..
+        }
+        | Core::Operate {
+            left: a,
+            right: b,
+            ..
+        }
+        | Core::And {
+            left: a,
+            right: b,
+            ..
+        }
+        | Core::Or {
+            left: a,
+            right: b,
+            ..
+        }
+        | Core::PointerOperate {
+            left: a,
+            right: b,
+            ..
+        }
+        | Core::Store {
+            place: a,
+            value: b,
+            ..
+        }
+        | Core::Update {
+            place: a,
+            value: b,
+            ..
+        }
+        | Core::NewArray {
+            count: a,
+            start: b,
+            ..
+        } => {
             node(a.get(), all)?;
             node(b.get(), all)?;
             Ok(())
         }
-        Core::Conditional { condition, yes, no, .. } => {
+        Core::Conditional {
+            condition,
+            yes,
+            no,
+            ..
+        } => {
             node(condition.get(), all)?;
             node(yes.get(), all)?;
             node(no.get(), all)?;
@@ -102,25 +143,51 @@ fn parts<'a>(e: &'a Core, all: &mut Vec<&'a Core>) -> Result<(), Memory>
             each(es.as_slice(), all)?;
             Ok(())
         }
-        Core::Assign { to, from, further, .. } => {
+        Core::Assign {
+            to,
+            from,
+            further,
+            ..
+        } => {
             node(to.get(), all)?;
             node(from.get(), all)?;
             each(further.as_slice(), all)?;
             Ok(())
         }
-        Core::Call { object, arguments, .. } => {
+        Core::Call {
+            object,
+            arguments,
+            ..
+        } => {
             optional(object, all)?;
             each(arguments.as_slice(), all)?;
             Ok(())
         }
-        Core::VirtualCall { object: a, arguments: es, .. }
-        | Core::Copy { from: a, further: es, .. }
-        | Core::Switch { operand: a, body: es, .. } => {
+        Core::VirtualCall {
+            object: a,
+            arguments: es,
+            ..
+        }
+        | Core::Copy {
+            from: a,
+            further: es,
+            ..
+        }
+        | Core::Switch {
+            operand: a,
+            body: es,
+            ..
+        } => {
             node(a.get(), all)?;
             each(es.as_slice(), all)?;
             Ok(())
         }
-        Core::PointerCall { object, pointer, arguments, .. } => {
+        Core::PointerCall {
+            object,
+            pointer,
+            arguments,
+            ..
+        } => {
             optional(object, all)?;
             node(pointer.get(), all)?;
             each(arguments.as_slice(), all)?;
@@ -131,13 +198,23 @@ fn parts<'a>(e: &'a Core, all: &mut Vec<&'a Core>) -> Result<(), Memory>
             node(rest.get(), all)?;
             Ok(())
         }
-        Core::If { condition, yes, no, .. } => {
+        Core::If {
+            condition,
+            yes,
+            no,
+            ..
+        } => {
             node(condition.get(), all)?;
             node(yes.get(), all)?;
             optional(no, all)?;
             Ok(())
         }
-        Core::Loop { condition, step, body, .. } => {
+        Core::Loop {
+            condition,
+            step,
+            body,
+            ..
+        } => {
             optional(condition, all)?;
             optional(step, all)?;
             node(body.get(), all)?;
