@@ -13,7 +13,7 @@ use Rattle.cf_core.specs.Nodes.{nodes}
 use Rattle.cf_core.specs.Types.{SourceType, parameters}
 use Rattle.cf_sequence.specs.Made.{makes, added}
 use Rattle.cf_sequence_lowered.specs.Counts.{is_small}
-use Rattle.cf_lowerable_core.specs.Views.{view, shown}
+use Rattle.cf_core_nodes.specs.Views.{view, shown}
 use Rattle.cf_lowerable_core.proofs.Entries.{parameters-taking}
 
 -- too many locals before those that nodes make

@@ -8,7 +8,7 @@ use Rattle.cf_core.specs.Core.{Core, Cores, more, case_label}
 use Rattle.cf_core.specs.FromTypes.{Tables}
 use Rattle.cf_sequence_lowered.specs.Nodes.{core_labels}
 use Rattle.cf_lowerable_core.specs.Looks.{label_passes}
-use Rattle.cf_lowerable_core.specs.Views.{view, viewed}
+use Rattle.cf_core_nodes.specs.Views.{view, viewed}
 
 module _ (test : ℤ → Bool) where
   labels-more : (e : Core) (es : Cores) → list_all test (core_labels (more e es)) ≡ (label_passes test e && list_all test (core_labels es))

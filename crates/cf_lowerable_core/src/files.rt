@@ -10,13 +10,13 @@ ghost use Rattle.cf_sequence.specs.Made as made;
 ghost use Rattle.cf_sequence_lowered.specs.Counts as counts;
 ghost use Rattle.cf_sequence_lowered.specs.Types as asked;
 ghost use Rattle.cf_lowerable_core.specs.Looks as spec;
-ghost use Rattle.cf_lowerable_core.specs.Views.{view, shown};
+ghost use Rattle.cf_core_nodes.specs.Views.{view, shown};
 
 use crate::nodes::{labels_agree, literal_fits, node_types_fit, operand_is_promoted};
 use crate::types::{is_of_object, is_of_static, parameters, signature_fits};
-use crate::walk::nodes_of;
 use cf_base::Memory;
 use cf_core::{Core, CoreFn, CoreStatic, CoreUnit};
+use cf_core_nodes::nodes_of;
 use cf_types::TyId;
 use std::alloc::Global;
 
@@ -139,9 +139,7 @@ fn head_looks(unit: &CoreUnit, f: &CoreFn) -> bool
     requires { unit.now.classes.defined ≡ [] }
     ensures { result ≡ spec.head_looks (function_of (tables_of unit.now) f.now) }
 {
-    function_fits(unit, f)
-        && are_objects(unit, f.locals.as_slice())
-        && !(f.is_shared && f.is_local)
+    function_fits(unit, f) && are_objects(unit, f.locals.as_slice()) && !(f.is_shared && f.is_local)
 }
 
 /// Whether its nodes are as lowering asks.

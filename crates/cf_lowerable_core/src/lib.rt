@@ -1,7 +1,7 @@
 //! Whether a file's core is as lowering asks (`CoreLowers` of `cf_sequence_lowered`), as far as that is decided here.
 //!
-//! `walk` lists the nodes of a function or an initialiser, `types` asks what is asked of types, `nodes` of each node, `files` of a file, and `literals`
-//! whether each literal has a name of its own. Names, initialisers that are known, and what nodes are by the types of their parts, are not decided yet.
+//! `types` asks what is asked of types, `nodes` of each node, `files` of a file, and `literals` whether each literal has a name of its own. Names,
+//! initialisers that are known, and what nodes are by the types of their parts, are not decided yet.
 #![tactic(auto)]
 
 mod files;
@@ -9,9 +9,7 @@ mod laws;
 mod literals;
 mod nodes;
 mod types;
-mod walk;
 
 pub use files::looks;
 pub use laws::looks_are_tests;
 pub use literals::literals_differ;
-pub use walk::nodes_of;

@@ -7,11 +7,11 @@ ghost use Rattle.cf_core.specs.FromUnit as core;
 ghost use Rattle.cf_core.specs.Valid as valid;
 ghost use Rattle.cf_sequence_lowered.specs.Literals as spec;
 ghost use Rattle.cf_lowerable_core.specs.Named as named;
-ghost use Rattle.cf_lowerable_core.specs.Views.{view, shown};
+ghost use Rattle.cf_core_nodes.specs.Views.{view, shown};
 
-use crate::walk::nodes_of;
 use cf_base::{Items, Memory, Name};
 use cf_core::{Core, CoreFn, CoreStatic, CoreUnit};
+use cf_core_nodes::nodes_of;
 use cf_lower_names::literal_name;
 use cf_name_list::Names;
 use std::alloc::Global;

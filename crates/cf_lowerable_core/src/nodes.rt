@@ -16,7 +16,7 @@ ghost use Rattle.cf_sequence_lowered.specs.Operators as asked_operators;
 ghost use Rattle.cf_sequence_lowered.specs.Texts as asked_texts;
 ghost use Rattle.cf_sequence_lowered.specs.Types as asked_types;
 ghost use Rattle.cf_lowerable_core.specs.Looks as looks;
-ghost use Rattle.cf_lowerable_core.specs.Views.{view, viewed};
+ghost use Rattle.cf_core_nodes.specs.Views.{view, viewed};
 
 use crate::types::{is_lowered, is_of_function, is_of_object, is_of_static};
 use cf_base::Kind;

@@ -1,7 +1,7 @@
 use Rattle.std.proofs.Common.{◌≡◌, ◌+◌, length, drop}
 use Rattle.cf_core.specs.FromUnit.{tables_of}
 use Rattle.cf_sequence.specs.Made.{added}
-use Rattle.cf_lowerable_core.specs.Views.{shown}
+use Rattle.cf_core_nodes.specs.Views.{shown}
 use Rattle.cf_lowerable_core.proofs.files.are_few.Given as goal
 
 abbrev pub invariant-loop-e : goal.invariant-loop-e

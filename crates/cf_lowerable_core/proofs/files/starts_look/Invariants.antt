@@ -2,7 +2,7 @@ use Rattle.std.proofs.Common.{◌≡◌, drop}
 use Rattle.std.specs.List.{list_all}
 use Rattle.cf_core.specs.FromUnit.{tables_of}
 use Rattle.cf_lowerable_core.specs.Looks.{start_looks}
-use Rattle.cf_lowerable_core.specs.Views.{shown}
+use Rattle.cf_core_nodes.specs.Views.{shown}
 use Rattle.cf_lowerable_core.proofs.files.starts_look.Given as goal
 
 abbrev pub invariant-loop-e : goal.invariant-loop-e

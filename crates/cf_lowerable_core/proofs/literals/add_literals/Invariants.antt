@@ -2,7 +2,7 @@ use Rattle.std.proofs.Common.{◌≡◌, ◌++◌, drop}
 use Rattle.std.specs.List.{flat_map}
 use Rattle.cf_core.specs.FromTypes.{Tables}
 use Rattle.cf_sequence_lowered.specs.Literals.{literal_of}
-use Rattle.cf_lowerable_core.specs.Views.{shown}
+use Rattle.cf_core_nodes.specs.Views.{shown}
 use Rattle.cf_lowerable_core.proofs.literals.add_literals.Given as goal
 
 abbrev pub invariant-loop-e : goal.invariant-loop-e

@@ -1,8 +1,8 @@
 use Rattle.std.proofs.Common.{◌≡◌, ◌++◌, drop}
 use Rattle.cf_core.specs.FromTypes.{Tables}
 use Rattle.cf_core.specs.Nodes.{nodes_all, nodes_parts}
-use Rattle.cf_lowerable_core.specs.Views.{viewed, in_parts, shown}
-use Rattle.cf_lowerable_core.proofs.walk.+walk.Given as goal
+use Rattle.cf_core_nodes.specs.Views.{viewed, in_parts, shown}
+use Rattle.cf_core_nodes.proofs.walk.+walk.Given as goal
 
 abbrev pub invariant-each-loop-e : goal.invariant-each-loop-e
 invariant-each-loop-e l =

@@ -1,11 +1,11 @@
 //! All nodes of a core, each before its parts.
 
-ghost use Rattle.std.specs.Prelude.{◌≡◌, ◌++◌, IfOk, OnOk, map};
+ghost use Rattle.std.specs.Prelude.{◌≡◌, ◌++◌, IfOk, OnOk};
 ghost use Rattle.std.specs.Option.{option_map};
 ghost use Rattle.cf_core.specs.FromTypes.{Tables};
 ghost use Rattle.cf_core.specs.Nodes.{nodes, nodes_all, nodes_maybe, nodes_parts};
 ghost use Rattle.cf_core.specs.View.{maybe};
-ghost use Rattle.cf_lowerable_core.specs.Views.{view, viewed, in_parts, shown, inside};
+ghost use Rattle.cf_core_nodes.specs.Views.{view, viewed, in_parts, shown, inside};
 
 use cf_base::{Boxed, Memory};
 use cf_core::{Core, PartStart};
