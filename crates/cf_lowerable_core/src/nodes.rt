@@ -8,7 +8,6 @@ ghost use Rattle.cf_core.specs.FromTypes.{Tables};
 ghost use Rattle.cf_core.specs.FromUnit.{tables_of};
 ghost use Rattle.cf_core.specs.View.{change_of};
 ghost use Rattle.cf_lower_place.specs.Leaf as leaf;
-ghost use Rattle.cf_lower_program.specs.Labels as labels;
 ghost use Rattle.cf_lower_program.specs.Starts as starts;
 ghost use Rattle.cf_sequence_lowered.specs.Labels as asked_labels;
 ghost use Rattle.cf_sequence_lowered.specs.Nodes.{core_labels};
@@ -115,14 +114,14 @@ pub(crate) fn operand_is_promoted(e: &Core) -> bool
 pub(crate) fn is_int(value: i64) -> bool
     ensures { result ≡ integers.fits Int value }
 {
-    -(1 << 31) <= value && value < (1 << 31)
+    -2147483648 <= value && value <= 2147483647
 }
 
 /// Whether a number is an `unsigned int`.
 pub(crate) fn is_unsigned(value: i64) -> bool
     ensures { result ≡ integers.fits UInt value }
 {
-    0 <= value && value < (1 << 32)
+    0 <= value && value <= 4294967295
 }
 
 /// Whether the labels among these are of type `int`.
