@@ -1,15 +1,15 @@
 -- Bytes that end in 0.
-use Rattle.std.proofs.Common.{◌≡◌, ◌∙◌, ℕ, zero, suc, ◌<◌, ◌^◌, Bool, true, false, ◌&&◌, List, [], ◌∷◌, All, refl, ap, sym, arith}
+use Rattle.std.proofs.Common.{◌≡◌, ◌∙◌, ℕ, zero, suc, ◌<◌, ◌^◌, Bool, true, false, ◌&&◌, List, [], ◌∷◌, get_or, Fits, w8, refl, ap, sym, arith}
 use Rattle.std.specs.Prelude.{nat_lt}
 use Rattle.std.proofs.lemmas.Bool.Decides.{nat_tests}
 use Rattle.cf_lower_program.specs.Starts.{is_text}
 use Rattle.cf_lowerable_core.specs.Looks.{ends_in_zero}
 
-is-byte : (b : ℕ) → b < 2 ^ 8 → true ≡ nat_lt b 256
-is-byte b h = grind (arith, nat_tests, h)
+is-byte : (b : ℕ) → Fits w8 b → true ≡ nat_lt b 256
+is-byte b h = let small : b < 2 ^ 8 = h in grind (arith, nat_tests, small)
 
-pub text_ends : (bytes : List ℕ) → All (λ b. b < 2 ^ 8) bytes → ends_in_zero false bytes ≡ is_text bytes
+pub text_ends : (bytes : List ℕ) → ((i : ℕ) → Fits w8 (get_or bytes i 0)) → ends_in_zero false bytes ≡ is_text bytes
 text_ends [] small = refl
 text_ends (b ∷ []) small = refl
 text_ends (b ∷ c ∷ rest) small =
-    text_ends (c ∷ rest) (λ k d lt. small (suc k) d (omega (arith, lt))) ∙ ap (λ t. t && is_text (c ∷ rest)) (is-byte b (small 0 b (omega arith)))
+    text_ends (c ∷ rest) (λ k. small (suc k)) ∙ ap (λ t. t && is_text (c ∷ rest)) (is-byte b (small 0))

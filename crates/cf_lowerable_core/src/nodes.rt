@@ -8,6 +8,7 @@ ghost use Rattle.cf_core.specs.FromTypes.{Tables};
 ghost use Rattle.cf_core.specs.FromUnit.{tables_of};
 ghost use Rattle.cf_core.specs.View.{change_of};
 ghost use Rattle.cf_lower_place.specs.Leaf as leaf;
+ghost use Rattle.cf_lower_program.specs.Labels as labels;
 ghost use Rattle.cf_lower_program.specs.Starts as starts;
 ghost use Rattle.cf_sequence_lowered.specs.Labels as asked_labels;
 ghost use Rattle.cf_sequence_lowered.specs.Nodes.{core_labels};
@@ -168,12 +169,19 @@ fn label_is_unsigned(s: &Core) -> bool
     }
 }
 
+/// Whether the labels among these are of one kind.
+fn are_of_one_kind(body: &[Core]) -> bool
+    ensures { (tables : Tables) → result ≡ labels.one_kind (core_labels (viewed tables body.now)) }
+{
+    are_ints(body) || are_unsigned(body)
+}
+
 /// Whether the labels of a switch are of one kind (6.4.2), if it is one.
 pub(crate) fn labels_agree(e: &Core) -> bool
     ensures { (tables : Tables) → result ≡ asked_labels.labels_agree (view tables e.now) }
 {
     match e {
-        Core::Switch { body, .. } => are_ints(body.as_slice()) || are_unsigned(body.as_slice()),
+        Core::Switch { body, .. } => are_of_one_kind(body.as_slice()),
         _ => true,
     }
 }

@@ -18,7 +18,7 @@ use cf_core::CoreUnit;
 use cf_types::{Ty, TyId};
 
 /// The type of this number, as the table has it; `void` where the table has none.
-#[tactic(auto, using(cf_lower_types::proofs::Entries::found, cf_lower_types::proofs::Entries::missing, cf_lower_types::proofs::Entries::no_names))]
+#[tactic(auto, using(cf_lower_types::proofs::Entries::no_names))]
 fn entry(unit: &CoreUnit, id: TyId) -> Ty
     ensures value { type_of (tables_of unit.now) id ≡ type_step (tables_of unit.now) (type_of (tables_of unit.now)) result }
     ensures named { Names unit.now.types.funs id (length unit.now.types.funs) result }

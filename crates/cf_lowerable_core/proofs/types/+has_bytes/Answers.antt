@@ -12,7 +12,7 @@ returns-in-Class t c =
 
 pub returns-in-Const : goal.returns-in-Const
 returns-in-Const t c =
-    c.has_bytes.ensures ∙ by_form (tables_of c.args.unit.now) has_bytes c.args.id c.entry.result (ty.Const _) c.entry.ensures.value c.in-Const.is
+    c.has_bytes-in-Const.ensures ∙ by_form (tables_of c.args.unit.now) has_bytes c.args.id c.entry.result (ty.Const _) c.entry.ensures.value c.in-Const.is
 
 pub returns-in_default : goal.returns-in_default
 returns-in_default t c =
