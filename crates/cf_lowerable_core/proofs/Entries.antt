@@ -7,7 +7,7 @@ use Rattle.cf_types.specs.declared.ty.Ty.{Ty}
 use Rattle.cf_types.specs.declared.ty.Ty.TheVariants as ty
 use Rattle.cf_types.specs.declared.ty.Fun.{Fun}
 use Rattle.cf_types.specs.Table.{Names, parts_of_fun}
-use Rattle.cf_core.specs.Types.{SourceType, void, array, const, gives, is_void, parameters, result}
+use Rattle.cf_core.specs.Types.{SourceType, gives, is_void, parameters, result}
 use Rattle.cf_core.specs.Places.{is_reference, is_const}
 use Rattle.cf_core.specs.FromTypes.{Tables, type_of, type_step, taking, fun_type}
 use Rattle.cf_lower_kept.specs.Ready.{is_code, names_well}
@@ -214,44 +214,6 @@ module _ (tables : Tables) where
   no_function (ty.Fun f) none = absurd (none f refl)
   no_function v none = and-true (is_lowered (type_step tables (type_of tables) v))
 
-  -- ---- arrays and const
-
-  module _ (t u n : ℕ) (v : Ty) (value : type_of tables t ≡ type_step tables (type_of tables) v) (is : v ≡ ty.Array u n) where
-    is_array : type_of tables t ≡ array (type_of tables u) n
-    is_array = value ∙ ap (type_step tables (type_of tables)) is
-
-    pub no_bytes : n ≡ 0 → false ≡ has_bytes (type_of tables t)
-    no_bytes none = sym (ap has_bytes (is_array ∙ ap (array (type_of tables u)) none))
-
-    pub some_bytes : (b : Bool) → (n ≡ 0 → ⊥) → b ≡ has_bytes (type_of tables u) → b ≡ has_bytes (type_of tables t)
-    some_bytes b some e = e ∙ by n some ∙ sym (ap has_bytes is_array)
-      where
-        by : (m : ℕ) → (m ≡ 0 → ⊥) → has_bytes (type_of tables u) ≡ has_bytes (array (type_of tables u) m)
-        by zero none = absurd (none refl)
-        by (suc m) none = refl
-
-    pub unlaid : is_laid (type_of tables t) ≡ false → false ≡ is_lowered (type_of tables t)
-    unlaid no = sym (ap is_lowered is_array ∙ ap (λ b. b && is_lowered (type_of tables u)) (sym (ap is_laid is_array) ∙ no))
-
-    pub laid : (b : Bool) → is_laid (type_of tables t) ≡ true → b ≡ is_lowered (type_of tables u) → b ≡ is_lowered (type_of tables t)
-    laid b yes e = sym (ap is_lowered is_array ∙ ap (λ c. c && is_lowered (type_of tables u)) (sym (ap is_laid is_array) ∙ yes) ∙ sym e)
-
-  module _ (t u : ℕ) (v : Ty) (value : type_of tables t ≡ type_step tables (type_of tables) v) (is : v ≡ ty.Const u) where
-    is_consted : type_of tables t ≡ const (type_of tables u)
-    is_consted = value ∙ ap (type_step tables (type_of tables)) is
-
-    pub const_twice : is_const (type_of tables u) ≡ true → false ≡ const_once (type_of tables t)
-    const_twice yes = sym (ap const_once is_consted ∙ ap (λ b. not b && const_once (type_of tables u)) yes)
-
-    pub const_alone : (b : Bool) → is_const (type_of tables u) ≡ false → b ≡ const_once (type_of tables u) → b ≡ const_once (type_of tables t)
-    const_alone b no e = sym (ap const_once is_consted ∙ ap (λ c. not c && const_once (type_of tables u)) no ∙ sym e)
-
-    pub const_on_code : is_code (type_of tables u) ≡ true → false ≡ is_lowered (type_of tables t)
-    const_on_code yes = sym (ap is_lowered is_consted ∙ ap (λ b. not b && is_lowered (type_of tables u)) yes)
-
-    pub const_on_other : (b : Bool) → is_code (type_of tables u) ≡ false → b ≡ is_lowered (type_of tables u) → b ≡ is_lowered (type_of tables t)
-    const_on_other b no e = sym (ap is_lowered is_consted ∙ ap (λ c. not c && is_lowered (type_of tables u)) no ∙ sym e)
-
   -- ---- functions that were found
 
   module _ (t f : ℕ) (v : Ty) (g : Fun) (value : type_of tables t ≡ type_step tables (type_of tables) v) (is : v ≡ ty.Fun f) (there : slice_get tables.types.funs f ≡ Some g) where
@@ -270,10 +232,10 @@ module _ (tables : Tables) where
     -- a parameter that is not lowered, and all of them
     pub one_unlowered : (i p : ℕ) → i < length g.params → p ≡ get_or g.params i p → is_lowered (type_of tables p) ≡ false
         → list_all is_lowered (map (type_of tables) (drop i g.params)) ≡ list_all is_lowered (map (type_of tables) g.params) → false ≡ is_lowered (type_of tables t)
-    one_unlowered i p within at no so_far =
+    one_unlowered i p within at unlowered so_far =
         let here : list_all is_lowered (map (type_of tables) (drop i g.params)) ≡ false =
         ap (λ (l : List ℕ). list_all is_lowered (map (type_of tables) l)) (drop-cons g.params i p within ∙ ap (λ d. d ∷ drop (suc i) g.params) (sym at))
-        ∙ ap (λ b. b && list_all is_lowered (map (type_of tables) (drop (suc i) g.params))) no in
+        ∙ ap (λ b. b && list_all is_lowered (map (type_of tables) (drop (suc i) g.params))) unlowered in
         sym (lowered_by_fun ∙ ap (λ b. b && is_lowered (type_of tables g.result)) (sym so_far ∙ here))
 
     pub all_lowered : (i : ℕ) (b : Bool) → length g.params ≤ i

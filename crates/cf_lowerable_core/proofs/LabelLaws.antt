@@ -4,8 +4,13 @@ use Rattle.std.specs.Prelude.{ℤ}
 use Rattle.std.specs.List.{list_all}
 use Rattle.cf_name_list.proofs.ListLaws.{left_is}
 use Rattle.cf_core.specs.declared.node.Core.{Core as Node}
-use Rattle.cf_core.specs.Core.{Core, Cores, more, case_label}
+use Rattle.cf_core.specs.declared.node.Core.TheOpen.{Core-F}
+use Rattle.cf_core.specs.declared.node.Core.TheFolds.{fold-roll-Core}
+use Rattle.cf_core.specs.declared.node.Core.TheVariants.{Switch, rolls-Switch}
+use Rattle.cf_core.specs.Core.{Core, Cores, more, case_label, switch}
+use Rattle.cf_core.specs.FromClasses.{signature_of}
 use Rattle.cf_core.specs.FromTypes.{Tables}
+use Rattle.cf_core.specs.View.{Started, core_step, started_step}
 use Rattle.cf_sequence_lowered.specs.Nodes.{core_labels}
 use Rattle.cf_lowerable_core.specs.Looks.{label_passes}
 use Rattle.cf_core_nodes.specs.Views.{view, viewed}
@@ -37,3 +42,10 @@ module _ (test : ℤ → Bool) where
       → true ≡ list_all test (core_labels (viewed tables body))
   labels_end tables body i past so_far =
       ap (λ (l : List Node). list_all test (core_labels (viewed tables l))) (sym (drop_of_length-le body past)) ∙ so_far
+
+-- ---- a switch
+
+pub switch_view : (tables : Tables) (at : ℕ) (operand : Node) (body : List Node) → view tables (Switch at operand body) ≡ switch (view tables operand) (viewed tables body)
+switch_view tables at operand body =
+    ap (view tables) (sym (rolls-Switch at operand body))
+    ∙ fold-roll-Core Core Started (core_step tables (signature_of tables)) (started_step tables (signature_of tables)) (Core-F.Switch at operand body)
