@@ -1,3 +1,4 @@
+pub mod Tests
 pub mod Entries
 pub mod Sizes
 pub mod LabelLaws

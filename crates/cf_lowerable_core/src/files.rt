@@ -28,7 +28,13 @@ fn node_looks(unit: &CoreUnit, e: &Core) -> bool
     requires { unit.now.classes.defined ≡ [] }
     ensures { result ≡ spec.node_looks (view (tables_of unit.now) e.now) }
 {
-    node_types_fit(unit, e) && literal_fits(e) && labels_agree(e)
+    if !node_types_fit(unit, e) {
+        return false;
+    }
+    if !literal_fits(e) {
+        return false;
+    }
+    labels_agree(e)
 }
 
 /// Whether a node of an initialiser is.
@@ -36,7 +42,13 @@ fn start_looks(unit: &CoreUnit, e: &Core) -> bool
     requires { unit.now.classes.defined ≡ [] }
     ensures { result ≡ spec.start_looks (view (tables_of unit.now) e.now) }
 {
-    node_types_fit(unit, e) && literal_fits(e) && operand_is_promoted(e)
+    if !node_types_fit(unit, e) {
+        return false;
+    }
+    if !literal_fits(e) {
+        return false;
+    }
+    operand_is_promoted(e)
 }
 
 /// Whether all nodes of a function are.
@@ -142,13 +154,22 @@ fn head_looks(unit: &CoreUnit, f: &CoreFn) -> bool
     function_fits(unit, f) && are_objects(unit, f.locals.as_slice()) && !(f.is_shared && f.is_local)
 }
 
+/// Whether a function of these nodes has few of them, and few locals, and each node is as lowering asks.
+fn nodes_fit(unit: &CoreUnit, f: &CoreFn, nodes: &[&Core]) -> bool
+    requires none { unit.now.classes.defined ≡ [] }
+    requires listed { shown (tables_of unit.now) nodes.now ≡ nodes_in (view (tables_of unit.now) f.now.body) }
+    ensures { result ≡ spec.body_looks (function_of (tables_of unit.now) f.now) }
+{
+    is_small(unit, f, nodes) && nodes_look(unit, nodes)
+}
+
 /// Whether its nodes are as lowering asks.
 fn body_looks(alloc: Global, unit: &CoreUnit, f: &CoreFn) -> Result<bool, Memory>
     requires { unit.now.classes.defined ≡ [] }
     ensures { IfOk result (λ fits. fits ≡ spec.body_looks (function_of (tables_of unit.now) f.now)) }
 {
     let nodes = nodes_of(alloc, &f.body)?;
-    Ok(is_small(unit, f, nodes.as_slice()) && nodes_look(unit, nodes.as_slice()))
+    Ok(nodes_fit(unit, f, nodes.as_slice()))
 }
 
 /// Whether each function of a file is.
@@ -175,13 +196,22 @@ fn object_looks(unit: &CoreUnit, x: &CoreStatic) -> bool
     is_of_static(unit, x.ty) && !(x.is_shared && x.is_local)
 }
 
+/// Whether an initialiser of these nodes is as lowering asks.
+fn starts_fit(unit: &CoreUnit, x: &CoreStatic, nodes: &[&Core]) -> bool
+    requires none { unit.now.classes.defined ≡ [] }
+    requires listed { shown (tables_of unit.now) nodes.now ≡ nodes_in (view (tables_of unit.now) x.now.start) }
+    ensures { result ≡ list_all spec.start_looks (nodes_in (view (tables_of unit.now) x.now.start)) }
+{
+    starts_look(unit, nodes)
+}
+
 /// Whether the nodes of its initialiser are as lowering asks.
 fn initialiser_looks(alloc: Global, unit: &CoreUnit, x: &CoreStatic) -> Result<bool, Memory>
     requires { unit.now.classes.defined ≡ [] }
     ensures { IfOk result (λ fits. fits ≡ list_all spec.start_looks (nodes_in (view (tables_of unit.now) x.now.start))) }
 {
     let nodes = nodes_of(alloc, &x.start)?;
-    Ok(starts_look(unit, nodes.as_slice()))
+    Ok(starts_fit(unit, x, nodes.as_slice()))
 }
 
 /// Whether each static object of a file is.
