@@ -6,3 +6,4 @@ pub mod NameLaws
 pub mod TextLaws
 pub mod Counts
 pub mod Together
+pub mod Puts
