@@ -4,7 +4,7 @@ use Rattle.std.specs.Prelude.{nat_lt}
 use Rattle.std.proofs.lemmas.Bool.Decides.{nat_tests}
 use Rattle.std.proofs.lemmas.List.{length-map}
 use Rattle.cf_core.specs.declared.unit.CoreFn.{CoreFn}
-use Rattle.cf_core.specs.Core.{Core, Function}
+use Rattle.cf_core.specs.Core.{Core}
 use Rattle.cf_core.specs.FromTypes.{Tables, type_of}
 use Rattle.cf_core.specs.FromUnit.{function_of}
 use Rattle.cf_core.specs.Nodes.{nodes}

@@ -1,5 +1,5 @@
 -- What a type is, by what stands in the table: each property by the forms that it depends on.
-use Rattle.std.proofs.Common.{◌≡◌, ◌∙◌, ℕ, zero, suc, ◌<◌, ◌≤◌, ◌^◌, Bool, true, false, not, ◌&&◌, ◌||◌, List, [], ◌∷◌, map, length, drop, get_or, Option, Some, None, slice_get, All, ap, refl, sym, subst, arith, drop-cons, drop_of_length-le}
+use Rattle.std.proofs.Common.{◌≡◌, ◌∙◌, ℕ, zero, suc, ◌<◌, ◌≤◌, ◌^◌, Bool, true, false, ◌&&◌, ◌||◌, List, [], ◌∷◌, map, length, drop, get_or, Option, Some, None, slice_get, All, ap, refl, sym, subst, arith, drop-cons, drop_of_length-le}
 use Rattle.std.specs.Prelude.{is_some, nat_le}
 use Rattle.std.specs.List.{list_all}
 use Rattle.cf_base.specs.declared.kind.Kind.{Kind}
@@ -12,7 +12,7 @@ use Rattle.cf_core.specs.Places.{is_reference, is_const}
 use Rattle.cf_core.specs.FromTypes.{Tables, type_of, type_step, taking, fun_type}
 use Rattle.cf_lower_kept.specs.Ready.{is_code, names_well}
 use Rattle.cf_lower_layout.specs.Layout.{has_bytes, const_once}
-use Rattle.cf_lower_layout.specs.Sorts.{sort_of, scalar_sort}
+use Rattle.cf_lower_layout.specs.Sorts.{sort_of}
 use Rattle.cf_lower_program.specs.Types.{is_laid, is_lowered}
 use Rattle.cf_sequence_lowered.specs.Types.{is_of_function}
 use Rattle.cf_lowerable_core.specs.Looks.{signature_looks}

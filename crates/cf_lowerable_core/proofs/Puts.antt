@@ -1,5 +1,5 @@
 -- What is put behind a list, one item after the other.
-use Rattle.std.proofs.Common.{◌≡◌, ◌∙◌, ℕ, ◌+◌, ◌<◌, List, ◌∷◌, ◌++◌, map, length, drop, get_or, ap, sym, append_assoc}
+use Rattle.std.proofs.Common.{◌≡◌, ◌∙◌, ℕ, ◌+◌, ◌<◌, List, ◌++◌, map, length, drop, get_or, ap, sym, append_assoc}
 use Rattle.std.specs.List.{flat_map}
 use Rattle.cf_name_list.proofs.ListLaws.{left_is}
 

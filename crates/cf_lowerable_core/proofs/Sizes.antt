@@ -1,10 +1,10 @@
 -- Objects of a file without classes are within the limit on sizes.
-use Rattle.std.proofs.Common.{◌≡◌, ◌∙◌, ℕ, ◌<◌, ◌≤◌, ◌^◌, Bool, true, false, ◌&&◌, List, [], length, ap, refl, sym, subst, arith}
+use Rattle.std.proofs.Common.{◌≡◌, ℕ, ◌<◌, ◌≤◌, ◌^◌, Bool, true, false, ◌&&◌, List, [], length, ap, refl, sym, subst, arith}
 use Rattle.std.specs.Prelude.{nat_le}
 use Rattle.std.proofs.lemmas.Bool.Decides.{nat_tests}
 use Rattle.cf_core.specs.Classes.{Class}
 use Rattle.cf_core.specs.FromClasses.{classes_in}
-use Rattle.cf_core.specs.FromTypes.{Tables, type_of}
+use Rattle.cf_core.specs.FromTypes.{type_of}
 use Rattle.cf_core.specs.FromUnit.{Unit, IsValid, tables_of}
 use Rattle.cf_core.specs.Size.{size}
 use Rattle.cf_core.specs.Types.{SourceType, void}

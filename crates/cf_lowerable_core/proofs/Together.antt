@@ -1,10 +1,10 @@
 -- The tests by functions and objects are the tests of the file, one by one.
-use Rattle.std.proofs.Common.{◌≡◌, ◌∙◌, Bool, true, false, ◌&&◌, not, List, [], ◌∷◌, refl, ap, sym}
+use Rattle.std.proofs.Common.{◌≡◌, Bool, true, ◌&&◌, not, List, [], ◌∷◌, refl}
 use Rattle.std.specs.List.{list_all}
 use Rattle.cf_base.proofs.Tests.{all_of, both}
 use Rattle.cf_core.specs.Core.{Core, Function, Static, CoreFile}
 use Rattle.cf_core.specs.Nodes.{nodes}
-use Rattle.cf_sequence_lowered.specs.Counts.{is_small, all_small, none_shared_and_local}
+use Rattle.cf_sequence_lowered.specs.Counts.{is_small, all_small}
 use Rattle.cf_sequence_lowered.specs.Labels.{labels_agree}
 use Rattle.cf_sequence_lowered.specs.Nodes.{in_functions, in_statics}
 use Rattle.cf_sequence_lowered.specs.Operators.{operand_is_promoted}

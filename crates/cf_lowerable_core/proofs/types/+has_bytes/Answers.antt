@@ -1,5 +1,4 @@
-use Rattle.std.proofs.Common.{ap, sym, ◌&&◌, ◌∙◌}
-use Rattle.std.specs.Prelude.{nat_lt}
+use Rattle.std.proofs.Common.{ap, sym, ◌∙◌}
 use Rattle.cf_core.specs.FromUnit.{tables_of}
 use Rattle.cf_types.specs.declared.ty.Ty.TheVariants as ty
 use Rattle.cf_lower_layout.specs.Layout.{has_bytes}

@@ -1,4 +1,4 @@
-use Rattle.std.proofs.Common.{◌≡◌, ◌≤◌, length, ap, arith}
+use Rattle.std.proofs.Common.{◌≡◌, length, ap, arith}
 use Rattle.cf_core.specs.FromUnit.{tables_of}
 use Rattle.cf_lower_types.proofs.Entries.{found, missing}
 use Rattle.cf_types.specs.Table.{Table}
