@@ -1,0 +1,10 @@
+use Rattle.std.proofs.Common.{◌≡◌, drop, map}
+use Rattle.std.specs.List.{list_all}
+use Rattle.cf_core.specs.FromTypes.{type_of}
+use Rattle.cf_core.specs.FromUnit.{tables_of}
+use Rattle.std.specs.Prelude.{is_some}
+use Rattle.cf_lower_layout.specs.Sorts.{sort_of}
+use Rattle.cf_lowerable_core.proofs.types.are_scalars.Given as goal
+
+abbrev pub invariant-loop-id : goal.invariant-loop-id
+invariant-loop-id l = list_all (λ p. is_some (sort_of p)) (map (type_of (tables_of l.unit)) (drop l.id-index l.ids)) ≡ list_all (λ p. is_some (sort_of p)) (map (type_of (tables_of l.unit)) l.ids)
