@@ -1,0 +1,52 @@
+-- What stands in a type by its number, by what the table has there.
+use Rattle.std.proofs.Common.{◌≡◌, ⊥, ℕ, Bool, true, false, List, [], ◌∷◌, map, Option, Some, None, slice_get, refl}
+use Rattle.cf_types.specs.declared.ty.Fun.{Fun}
+use Rattle.cf_types.specs.declared.ty.Ty.{Ty}
+use Rattle.cf_types.specs.declared.ty.Ty.TheVariants as ty
+use Rattle.cf_core.specs.FromTypes.{Tables, type_of, type_step, fun_type, taking}
+use Rattle.cf_core.specs.Places.{is_const}
+use Rattle.cf_core.specs.Types.{gives}
+use Rattle.cf_lower_layout.specs.Layout.{const_once}
+
+module _ (tables : Tables) where
+  function_const : (o : Option Fun) → is_const (fun_type (type_of tables) o) ≡ false
+  function_const None = refl
+  function_const (Some f) = by f.params
+    where
+      by : (ps : List ℕ) → is_const (taking (map (type_of tables) ps) (gives (type_of tables f.result) f.is_const)) ≡ false
+      by [] = refl
+      by (p ∷ ps) = refl
+
+  function_once : (o : Option Fun) → const_once (fun_type (type_of tables) o) ≡ true
+  function_once None = refl
+  function_once (Some f) = by f.params
+    where
+      by : (ps : List ℕ) → const_once (taking (map (type_of tables) ps) (gives (type_of tables f.result) f.is_const)) ≡ true
+      by [] = refl
+      by (p ∷ ps) = refl
+
+  pub other_const : (v : Ty) → ((u : ℕ) → v ≡ ty.Const u → ⊥) → is_const (type_step tables (type_of tables) v) ≡ false
+  other_const (ty.Const u) no = absurd (no u refl)
+  other_const ty.Void no = refl
+  other_const (ty.Int k) no = refl
+  other_const (ty.Enum e) no = refl
+  other_const (ty.Class c) no = refl
+  other_const (ty.Ptr u) no = refl
+  other_const (ty.Ref u) no = refl
+  other_const (ty.Array u n) no = refl
+  other_const (ty.Fun f) no = function_const (slice_get tables.types.funs f)
+  other_const (ty.MemData c u) no = refl
+  other_const (ty.MemFun c f) no = refl
+
+  pub other_once : (v : Ty) → ((u : ℕ) → v ≡ ty.Const u → ⊥) → ((u n : ℕ) → v ≡ ty.Array u n → ⊥) → const_once (type_step tables (type_of tables) v) ≡ true
+  other_once (ty.Const u) no none = absurd (no u refl)
+  other_once (ty.Array u n) no none = absurd (none u n refl)
+  other_once ty.Void no none = refl
+  other_once (ty.Int k) no none = refl
+  other_once (ty.Enum e) no none = refl
+  other_once (ty.Class c) no none = refl
+  other_once (ty.Ptr u) no none = refl
+  other_once (ty.Ref u) no none = refl
+  other_once (ty.Fun f) no none = function_once (slice_get tables.types.funs f)
+  other_once (ty.MemData c u) no none = refl
+  other_once (ty.MemFun c f) no none = refl
