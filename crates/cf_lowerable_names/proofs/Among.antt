@@ -1,26 +1,26 @@
 -- Names among those of several lists.
 use Rattle.std.proofs.Common.{◌≡◌, ℕ, Bool, true, false, List, [], ◌∷◌, ◌++◌, ◌||◌, ◌&&◌, map, refl, sym, ap, ◌∙◌}
 use Rattle.std.specs.Prelude.{bytes_eq}
-use Rattle.std.specs.List.{flat_map, list_all, list_any}
+use Rattle.std.specs.List.{flat_map, list_all}
 use Rattle.std.proofs.lemmas.List.Folds.{list_any-append}
 use Rattle.cc_whole.specs.Known.{is_in}
 use Rattle.cf_core.specs.Types.{Name}
 
-abbrev pub is : Name → Name → Bool
-is q n = bytes_eq n q
-
-pub or_grouped : (a b c : Bool) → ((a || b) || c) ≡ (a || (b || c))
-or_grouped true b c = refl
-or_grouped false b c = refl
-
-pub or_other : (a b c : Bool) → (a || (b || c)) ≡ (b || (a || c))
-or_other true true c = refl
-or_other true false c = refl
-or_other false b c = refl
+or_false : (b : Bool) → (b || false) ≡ b
+or_false true = refl
+or_false false = refl
 
 module _ (q : Name) where
   pub in_both : (xs ys : List Name) → is_in (xs ++ ys) q ≡ (is_in xs q || is_in ys q)
   in_both xs ys = list_any-append (λ other. bytes_eq other q) xs ys
+
+  -- of three lists, one after the other put in front of none
+  pub in_three : (a b c x y z none : List Name) → none ≡ [] → is_in x q ≡ (is_in a q || is_in none q) → is_in y q ≡ (is_in b q || is_in x q)
+      → is_in z q ≡ (is_in c q || is_in y q) → is_in z q ≡ (is_in c q || (is_in b q || is_in a q))
+  in_three a b c x y z none empty first second third =
+      third
+      ∙ ap (λ v. is_in c q || v)
+      (second ∙ ap (λ v. is_in b q || v) (first ∙ ap (λ l. is_in a q || is_in l q) empty ∙ or_false (is_in a q)))
 
   -- of items that give two lists each
   pub in_either : {A : Type 0} (f g : A → List Name) (xs : List A)

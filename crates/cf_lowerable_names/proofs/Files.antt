@@ -3,7 +3,8 @@ use Rattle.std.proofs.Common.{◌≡◌, Bool, true, false, if◌then◌else◌,
 use Rattle.std.proofs.lemmas.List.{map-append}
 use Rattle.std.proofs.lemmas.List.Concat.{flat_map-append}
 use Rattle.std.proofs.lemmas.List.Folds.{list_all-append}
-use Rattle.std.specs.List.{flat_map, list_all}
+use Rattle.std.specs.Prelude.{filter}
+use Rattle.std.specs.List.{flat_map}
 use Rattle.cc_whole.specs.declared.unit.CVariable.{CVariable}
 use Rattle.cc_whole.specs.Known.{is_in}
 use Rattle.cc_whole.specs.Plain.{Item, Statement, declares, defines, defines_variable, name_of}
@@ -19,7 +20,8 @@ use Rattle.cf_plain.specs.Plain as plain
 use Rattle.cf_plain.specs.Plain.{Action, PlainFunction, PlainFile, PlainStatic as StaticOf}
 use Rattle.cf_plain.specs.Named.{all_actions}
 use Rattle.cf_plain.specs.View.{Unit as PlainUnit, file_of, function_of, static_of}
-use Rattle.cf_lower.specs.Functions.{constants_function, declared_at, defined_elsewhere, library, lowered_file, lowered_function, named_in, other_names, own_prototypes, own_variables, prototype}
+use Rattle.cf_lower.specs.Constants.{constant_code, nothing_known}
+use Rattle.cf_lower.specs.Functions.{constants_function, declared_at, defined_elsewhere, library, literals, lowered_file, lowered_function, lowered_static, named_in, other_names, own_prototypes, own_variables, owner_of, prototype, start_literals}
 use Rattle.cf_lower_program.specs.Names.{names_used, own_names}
 use Rattle.cf_lower_types.specs.Bare.{classes_of}
 use Rattle.cf_lower_unit.specs.Pieces.{file_with}
@@ -104,11 +106,16 @@ module _ (file : PlainFile) where
   variables_lowered : flat_map variable_names (lowered_file file) ≡ map name_of (own_variables file)
   variables_lowered =
       let functions = map (λ (f : PlainFunction). defines (lowered_function file.classes f)) file.functions in
-      let start = constants_function _ in
-      skipped library _ refl ∙ skipped (own_prototypes file) _ (none_declared file.functions) ∙ skipped (defined_elsewhere file) _ none_elsewhere
-      ∙ flat_map-append variable_names (own_variables file) (functions ++ start)
-      ∙ ap (λ l. flat_map variable_names (own_variables file) ++ l) (skipped functions start (none_defined file.classes file.functions) ∙ none_stored _)
-      ∙ append-nil (flat_map variable_names (own_variables file)) ∙ variables_named _
+      let stored =
+      flat_map (λ (x : StaticOf). constant_code file.classes x.start (owner_of x) nothing_known) (filter (λ (x : StaticOf). x.is_constant) file.statics) in
+      let start = constants_function stored in
+      let own = own_variables file in
+      let variables = map (lowered_static file.classes) file.statics ++ flat_map literals file.functions ++ flat_map start_literals file.statics in
+      skipped library (own_prototypes file ++ defined_elsewhere file ++ own ++ functions ++ start) refl
+      ∙ skipped (own_prototypes file) (defined_elsewhere file ++ own ++ functions ++ start) (none_declared file.functions)
+      ∙ skipped (defined_elsewhere file) (own ++ functions ++ start) none_elsewhere ∙ flat_map-append variable_names own (functions ++ start)
+      ∙ ap (λ l. flat_map variable_names own ++ l) (skipped functions start (none_defined file.classes file.functions) ∙ none_stored stored)
+      ∙ append-nil (flat_map variable_names own) ∙ variables_named variables
 
 module _ (tables : Tables) (fs : List PlainFn) (xs : List PlainStatic) where
   abbrev file : PlainFile
@@ -180,3 +187,14 @@ module _ (unit : PlainUnit) (tables : Tables) (types : Table) (classes : ClassTa
       ∙ ap (λ c. lowered_file (file_with (record { types = unit.types; classes = c }) fs xs)) same_classes
       ∙ ap (λ l. lowered_file (file_with (record { types = unit.types; classes = unit.classes }) l xs)) same_fs
       ∙ ap (λ l. lowered_file (file_with (record { types = unit.types; classes = unit.classes }) unit.functions l)) same_xs
+
+  -- the answer for a unit
+  module _ (names : List Name) (items : List Item) (lowered : items ≡ lowered_file (file_of unit)) (known : (q : Name) → is_in names q ≡ is_known fs items q) where
+    both_used : (functions_in names tables fs && statics_in names tables xs) ≡ names_used (file_of unit)
+    both_used = used_is tables fs xs names items (lowered ∙ sym lowered_of_unit) known ∙ used_of_unit
+
+    pub not_used : (a : Bool) → a ≡ functions_in names tables fs → a ≡ false → false ≡ names_used (file_of unit)
+    not_used a is no = sym (ap (λ b. b && statics_in names tables xs) (sym is ∙ no)) ∙ both_used
+
+    pub are_used : (a b : Bool) → a ≡ functions_in names tables fs → a ≡ true → b ≡ statics_in names tables xs → b ≡ names_used (file_of unit)
+    are_used a b is yes there = there ∙ sym (ap (λ c. c && statics_in names tables xs) (sym is ∙ yes)) ∙ both_used

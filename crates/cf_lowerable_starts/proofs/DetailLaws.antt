@@ -51,13 +51,13 @@ module _ (tables : Tables) where
   chosen false x y = refl
 
   -- something else is known of one register
-  pub told_one : (old new : Details) (ds : List Detail) (r : ℕ) (d : Detail) → ((q : ℕ) → detail_at ds q ≡ detail_at old.details.items q) → r < length ds
-      → new.details.items ≡ slice_set ds r d → details_in tables new ≡ tell (details_in tables old) r (detail_in tables d)
-  told_one old new ds r d same lt set = λ j q. point q j
+  pub told_one : (xs ys zs : List Detail) (r : ℕ) (d : Detail) → ((q : ℕ) → detail_at ys q ≡ detail_at xs q) → r < length ys → zs ≡ slice_set ys r d
+      → of_list zs ≡ tell (of_list xs) r (detail_in tables d)
+  told_one xs ys zs r d same lt set = λ j q. point q j
     where
-      point : (q : ℕ) → of_list new.details.items q ≡ tell (of_list old.details.items) r (detail_in tables d) q
+      point : (q : ℕ) → of_list zs q ≡ tell (of_list xs) r (detail_in tables d) q
       point q =
-          ap (λ l. detail_in tables (detail_at l q)) set ∙ ap (detail_in tables) (at_set ds r d q lt) ∙ chosen (q == r) d (detail_at ds q)
+          ap (λ l. detail_in tables (detail_at l q)) set ∙ ap (detail_in tables) (at_set ys r d q lt) ∙ chosen (q == r) d (detail_at ys q)
           ∙ ap (λ h. if q == r then detail_in tables d else detail_in tables h) (same q)
 
   -- nothing is known

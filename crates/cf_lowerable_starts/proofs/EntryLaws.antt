@@ -1,12 +1,13 @@
 -- What stands in a type by its number, by what the table has there.
-use Rattle.std.proofs.Common.{◌≡◌, ⊥, ℕ, Bool, true, false, List, [], ◌∷◌, map, Option, Some, None, slice_get, refl}
+use Rattle.std.proofs.Common.{◌≡◌, ⊥, ℕ, Bool, true, false, List, [], ◌∷◌, map, Option, Some, None, slice_get, refl, sym}
 use Rattle.cf_types.specs.declared.ty.Fun.{Fun}
 use Rattle.cf_types.specs.declared.ty.Ty.{Ty}
 use Rattle.cf_types.specs.declared.ty.Ty.TheVariants as ty
 use Rattle.cf_core.specs.FromTypes.{Tables, type_of, type_step, fun_type, taking}
-use Rattle.cf_core.specs.Places.{is_const}
+use Rattle.cf_core.specs.Places.{is_const, is_reference}
 use Rattle.cf_core.specs.Types.{gives}
 use Rattle.cf_lower_layout.specs.Layout.{const_once}
+use Rattle.cf_lower_types.specs.Bare.{Refers}
 
 module _ (tables : Tables) where
   function_const : (o : Option Fun) → is_const (fun_type (type_of tables) o) ≡ false
@@ -50,3 +51,12 @@ module _ (tables : Tables) where
   other_once (ty.Fun f) no none = function_once (slice_get tables.types.funs f)
   other_once (ty.MemData c u) no none = refl
   other_once (ty.MemFun c f) no none = refl
+
+  -- whether it is a reference, by what it refers to
+  pub refers_some : (t : ℕ) (o : Option ℕ) (u : ℕ) → Refers tables t o → o ≡ Some u → true ≡ is_reference (type_of tables t)
+  refers_some t (Some v) u r e = sym r.0
+  refers_some t None u r e = cc
+
+  pub refers_none : (t : ℕ) (o : Option ℕ) → Refers tables t o → o ≡ None → false ≡ is_reference (type_of tables t)
+  refers_none t None r e = sym r
+  refers_none t (Some v) r e = cc

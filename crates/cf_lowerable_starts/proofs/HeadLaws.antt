@@ -1,5 +1,5 @@
 -- Types of functions of the library, by the forms of types.
-use Rattle.std.proofs.Common.{◌≡◌, ⊥, ℕ, ◌==◌, Bool, true, false, ◌&&◌, List, [], ◌∷◌, map, Option, Some, None, slice_get, refl, sym, ap, ◌∙◌}
+use Rattle.std.proofs.Common.{◌≡◌, ⊥, ℕ, ◌==◌, Bool, true, false, ◌&&◌, List, [], ◌∷◌, length, map, Option, Some, None, slice_get, refl, sym, ap, ◌∙◌}
 use Rattle.cf_base.specs.declared.kind.Kind.TheVariants.{Char, SChar, UChar, Short, UShort, Int, UInt, Long, ULong}
 use Rattle.cf_types.specs.declared.ty.Fun.{Fun}
 use Rattle.cf_core.specs.FromTypes.{Tables, type_of, fun_type, taking}
@@ -77,6 +77,13 @@ module _ (tables : Tables) where
     pub void_at : b ≡ is_void x → b ≡ type_eq void (bare tables t)
     void_at is = is ∙ void_form x ∙ sym (ap (type_eq void) e)
 
+  pub first_taken : (all rest : List ℕ) (p : ℕ) (b : Bool) → all ≡ p ∷ rest → b ≡ type_eq (integer Int) (bare tables p) → ((length rest == 0) && b) ≡ takes_int tables all
+  first_taken all [] p b is int = int ∙ sym (ap (takes_int tables) is)
+  first_taken all (q ∷ qs) p b is int = sym (ap (takes_int tables) is)
+
+  pub none_first : (all : List ℕ) → all ≡ [] → false ≡ takes_int tables all
+  none_first all none = sym (ap (takes_int tables) none)
+
   -- ---- whole heads
 
   abbrev of_int : SourceType → SourceType
@@ -138,3 +145,7 @@ module _ (tables : Tables) where
 
       pub no_head_of_none : false ≡ type_eq (gives w false) (bare tables t)
       no_head_of_none = other_none x no ∙ sym (ap (type_eq (gives w false)) e)
+
+pub empty_taken : (ps : List ℕ) → (length ps == 0) ≡ takes_nothing ps
+empty_taken [] = refl
+empty_taken (p ∷ ps) = refl

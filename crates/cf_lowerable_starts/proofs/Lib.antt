@@ -7,6 +7,7 @@ pub mod HeadLaws
 pub mod NameLaws
 pub mod PartLaws
 pub mod StateLaws
+pub mod StoreLaws
 pub mod Turns
 pub mod TypeLaws
 pub mod ValueLaws

@@ -10,7 +10,7 @@ use Rattle.cf_lowerable_starts.specs.Telling.{details_in, part_in, parts_in, tel
 use Rattle.cf_lowerable_starts.proofs.DetailLaws.{none_told}
 use Rattle.cf_lowerable_starts.proofs.PartLaws.{one_more}
 
-abbrev both : (Register → Fact) → List Part → Told
+abbrev pub both : (Register → Fact) → List Part → Told
 both facts parts = record { facts = facts; parts = parts }
 
 module _ (x : Site) (s : State) where
@@ -20,11 +20,11 @@ module _ (x : Site) (s : State) where
   -- by what was known and set before
   module _ (old : State) where
     pub told_of : (r : ℕ) (f : Fact) → details_in x.tables.now s.details ≡ tell (details_in x.tables.now old.details) r f → s.parts.items ≡ old.parts.items
-        → tells x s ≡ record (tells x old) { facts = tell (tells x old).facts r f }
+        → tells x s ≡ both (tell (tells x old).facts r f) (tells x old).parts
     told_of r f told same =
         ap (λ g. both g (parts_in s.parts.items)) told ∙ ap (λ l. both (tell (details_in x.tables.now old.details) r f) (parts_in l)) same
 
     pub set_of : (p : CodePart) → s.details ≡ old.details → parts_in s.parts.items ≡ part_in p ∷ parts_in old.parts.items
-        → tells x s ≡ record (tells x old) { parts = part_in p ∷ (tells x old).parts }
+        → tells x s ≡ both (tells x old).facts (part_in p ∷ (tells x old).parts)
     set_of p same set =
         ap (λ d. both (details_in x.tables.now d) (parts_in s.parts.items)) same ∙ ap (both (details_in x.tables.now old.details)) set

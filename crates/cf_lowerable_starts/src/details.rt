@@ -19,7 +19,7 @@ use std::alloc::Global;
 
 /// What is known of a register beside its value.
 #[derive(Clone, Copy)]
-pub(crate) enum Detail {
+pub enum Detail {
     Nothing,
     /// Of a place: so many elements of its array begin there or behind.
     Left(u64),
@@ -29,7 +29,7 @@ pub(crate) enum Detail {
 
 /// The same of each register, by its number; nothing behind the last.
 #[derive(Drop)]
-pub(crate) struct Details {
+pub struct Details {
     details: Vec<Detail>,
 }
 

@@ -13,7 +13,6 @@ use cf_lower_types::{Form, Tables, form_of};
 use cf_types::{Fun, TyId};
 
 /// Whether the type of this number is `int`.
-#[tactic(auto, using(crate::proofs::HeadLaws::int_at))]
 fn is_int(tables: &Tables<'_>, id: TyId) -> bool
     ensures { result ≡ type_eq (integer kind.Int) (bare tables.now id) }
 {
@@ -46,7 +45,6 @@ fn is_int_form(form: &Form) -> bool
 }
 
 /// Whether the type of this number is `void`.
-#[tactic(auto, using(crate::proofs::HeadLaws::void_at))]
 fn is_nothing(tables: &Tables<'_>, id: TyId) -> bool
     ensures { result ≡ type_eq void (bare tables.now id) }
 {
@@ -66,13 +64,17 @@ fn is_void_form(form: &Form) -> bool
 fn takes_int(tables: &Tables<'_>, function: &Fun) -> bool
     ensures { result ≡ heads.takes_int tables.now function.now.params }
 {
-    match function.params.as_slice() {
-        [only] => is_int(tables, *only),
-        _ => false,
+    match function.params.as_slice().split_first() {
+        Some((first, rest)) => {
+            let int = is_int(tables, *first);
+            rest.len() == 0 && int
+        }
+        None => false,
     }
 }
 
 /// Whether it takes nothing.
+#[tactic(auto, using(crate::proofs::HeadLaws::empty_taken))]
 fn takes_nothing(function: &Fun) -> bool
     ensures { result ≡ heads.takes_nothing function.now.params }
 {

@@ -8,7 +8,7 @@ use cf_base::Memory;
 
 /// So many bytes from a byte of an object on.
 #[derive(Clone, Copy)]
-pub(crate) struct Part {
+pub struct Part {
     pub start: u64,
     pub size: u64,
 }

@@ -15,7 +15,7 @@ use std::alloc::Global;
 
 /// What registers hold, what else is known of them, and which parts of its object an initialiser has set.
 #[derive(Drop)]
-pub(crate) struct State {
+pub struct State {
     pub known: Knowns,
     pub details: Details,
     pub parts: Vec<Part>,
@@ -54,7 +54,7 @@ impl State {
     ) -> Result<(), Memory>
         ensures known { (x : SiteOf) → OnOk result (knows x self.new ≡ definition.know (knows x self.old) register (told x known)) }
         ensures told { (x : SiteOf) → OnOk result (tells x self.new
-            ≡ record (tells x self.old) { facts = alike.tell (tells x self.old).facts register (detail_in x.tables.now detail) }) }
+            ≡ record { facts = alike.tell (tells x self.old).facts register (detail_in x.tables.now detail); parts = (tells x self.old).parts }) }
     {
         self.known.know(alloc, register, known)?;
         self.details.tell(register, detail)?;
@@ -64,7 +64,7 @@ impl State {
     /// A part is set.
     pub(crate) fn add_part(&mut self, part: Part) -> Result<(), Memory>
         ensures known { (x : SiteOf) → OnOk result (knows x self.new ≡ knows x self.old) }
-        ensures told { (x : SiteOf) → OnOk result (tells x self.new ≡ record (tells x self.old) { parts = part_in part ∷ (tells x self.old).parts }) }
+        ensures told { (x : SiteOf) → OnOk result (tells x self.new ≡ record { facts = (tells x self.old).facts; parts = part_in part ∷ (tells x self.old).parts }) }
     {
         self.parts.push(part)?;
         Ok(())

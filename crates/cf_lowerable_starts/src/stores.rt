@@ -1,6 +1,6 @@
 //! What an initialiser sets.
 
-ghost use Rattle.std.specs.Prelude.{◌≡◌, ◌∷◌, IfOk, OnOk};
+ghost use Rattle.std.specs.Prelude.{◌≡◌, ◌∷◌, bytes_eq, IfOk, OnOk};
 ghost use Rattle.cf_core.specs.FromTypes.{Tables as TablesOf};
 ghost use Rattle.cf_core.specs.Types.{Name as NameOf};
 ghost use Rattle.cf_lower.specs.Constants as definition;
@@ -54,6 +54,13 @@ fn fits_first(
     }
 }
 
+/// Whether two names are the same.
+fn is_same(a: &[u8], b: &[u8]) -> bool
+    ensures { result ≡ bytes_eq a.now b.now }
+{
+    a == b
+}
+
 /// Whether nothing was set before of an object of this type, so many bytes behind the start of the named one.
 fn is_clear_at(
     tables: &Tables<'_>,
@@ -65,7 +72,8 @@ fn is_clear_at(
 ) -> Result<bool, Memory>
     ensures { IfOk result (λ clear. clear ≡ alike.is_clear name.now (definition.at of.now at (target_in tables.now target.now)) (parts_in parts.now)) }
 {
-    if of != name {
+    let same = is_same(of, name);
+    if !same {
         return Ok(false);
     }
     let void = is_void(tables, target)?;
@@ -121,7 +129,9 @@ fn first_alike(
     ensures { IfOk result (λ is. is ≡ alike.act_alike name.now (knows x.now s.now) (tells x.now s.now) (plain.first place value)) }
 {
     let at = s.known.get(x.alloc, place)?;
-    if !is_own(name, &at.fact, at.name.as_slice(), s.details.get(place)) {
+    let left = s.details.get(place);
+    let own = is_own(name, &at.fact, at.name.as_slice(), left);
+    if !own {
         return Ok(false);
     }
     let given = s.known.get(x.alloc, value)?;
@@ -159,7 +169,9 @@ fn bytes_alike(x: &Site<'_>, name: &[u8], s: &State, place: u32) -> Result<bool,
     ensures { (b : NameOf) → IfOk result (λ is. is ≡ alike.act_alike name.now (knows x.now s.now) (tells x.now s.now) (plain.bytes place b)) }
 {
     let at = s.known.get(x.alloc, place)?;
-    if !is_own(name, &at.fact, at.name.as_slice(), s.details.get(place)) {
+    let left = s.details.get(place);
+    let own = is_own(name, &at.fact, at.name.as_slice(), left);
+    if !own {
         return Ok(false);
     }
     let clear = zeros_alike(x, name, s, place)?;
@@ -209,7 +221,7 @@ fn part_of(tables: &Tables<'_>, fact: &Fact, target: &Target) -> Result<Part, Me
 fn add_part(x: &Site<'_>, s: &mut State, place: u32) -> Result<(), Memory>
     ensures known { OnOk result (knows x.now s.new ≡ knows x.now s.old) }
     ensures told { OnOk result (tells x.now s.new
-        ≡ record (tells x.now s.old) { parts = alike.part_of (knows x.now s.old place) ∷ (tells x.now s.old).parts }) }
+        ≡ record { facts = (tells x.now s.old).facts; parts = alike.part_of (knows x.now s.old place) ∷ (tells x.now s.old).parts }) }
 {
     let at = s.known.get(x.alloc, place)?;
     let part = part_of(x.tables, &at.fact, &at.target)?;
@@ -221,7 +233,7 @@ fn add_part(x: &Site<'_>, s: &mut State, place: u32) -> Result<(), Memory>
 pub(crate) fn add_parts(x: &Site<'_>, s: &mut State, a: &Action) -> Result<(), Memory>
     ensures known { OnOk result (knows x.now s.new ≡ knows x.now s.old) }
     ensures told { OnOk result (tells x.now s.new
-        ≡ record (tells x.now s.old) { parts = alike.parts_by (knows x.now s.old) (tells x.now s.old).parts (action_at x.now a.now) }) }
+        ≡ record { facts = (tells x.now s.old).facts; parts = alike.parts_by (knows x.now s.old) (tells x.now s.old).parts (action_at x.now a.now) }) }
 {
     match a {
         Action::First { place, .. } => {

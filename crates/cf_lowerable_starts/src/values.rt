@@ -164,20 +164,26 @@ pub(crate) fn converts(
     ensures { (n : NameOf) → IfOk result (λ does. does ≡ alike.converts (type_of tables.now ty) (fact_in tables.now fact.now target.now n)) }
 {
     match form_of(tables, ty) {
-        Form::Integer(_) => Ok(has_number(fact)),
-        Form::Enumeration(_) => Ok(has_number(fact)),
+        Form::Integer(_) => {
+            let number = has_number(fact);
+            Ok(number)
+        }
+        Form::Enumeration(_) => {
+            let named = has_number(fact);
+            Ok(named)
+        }
         Form::Pointer(to) => {
             let sort = sort_to(tables, to);
             let is = is_pointed(tables, &sort, fact, target)?;
             Ok(is)
         }
-        Form::Void
-        | Form::Class(_)
-        | Form::Reference(_)
-        | Form::Array(_, _)
-        | Form::Function(_)
-        | Form::DataMember(_, _)
-        | Form::FunctionMember(_, _) => Ok(false),
+        Form::Void => Ok(false),
+        Form::Class(_) => Ok(false),
+        Form::Reference(_) => Ok(false),
+        Form::Array(_, _) => Ok(false),
+        Form::Function(_) => Ok(false),
+        Form::DataMember(_, _) => Ok(false),
+        Form::FunctionMember(_, _) => Ok(false),
     }
 }
 

@@ -18,7 +18,7 @@ fn act(x: &Site<'_>, name: &[u8], a: &Action, s: &mut State) -> Result<bool, Mem
     ensures alike { IfOk result (λ is. is ≡ alike.act_alike name.now (knows x.now s.old) (tells x.now s.old) (action_at x.now a.now)) }
     ensures known { OnOk result (knows x.now s.new ≡ knows x.now s.old) }
     ensures told { OnOk result (tells x.now s.new
-        ≡ record (tells x.now s.old) { parts = alike.parts_by (knows x.now s.old) (tells x.now s.old).parts (action_at x.now a.now) }) }
+        ≡ record { facts = (tells x.now s.old).facts; parts = alike.parts_by (knows x.now s.old) (tells x.now s.old).parts (action_at x.now a.now) }) }
 {
     let is = act_alike(x, name, s, a)?;
     add_parts(x, s, a)?;
@@ -31,7 +31,7 @@ fn set(x: &Site<'_>, register: u32, a: &Action, s: &mut State) -> Result<bool, M
     ensures known { OnOk result (knows x.now s.new
         ≡ definition.know (knows x.now s.old) register (definition.known_by [] x.now.owner.now (knows x.now s.old) (action_at x.now a.now))) }
     ensures told { OnOk result (tells x.now s.new
-        ≡ record (tells x.now s.old) { facts = alike.tell (tells x.now s.old).facts register (alike.fact_by (knows x.now s.old) (tells x.now s.old).facts (action_at x.now a.now)) }) }
+        ≡ record { facts = alike.tell (tells x.now s.old).facts register (alike.fact_by (knows x.now s.old) (tells x.now s.old).facts (action_at x.now a.now)); parts = (tells x.now s.old).parts }) }
 {
     let _types = x.tables.types();
     let is = action_alike(x, s, a)?;

@@ -18,7 +18,7 @@ statements_alike-loop-statement-preserved t c =
     let i = c.loop-statement.statement-index in
     let s = c.statement-item.result in
     let old = c.loop-statement.s in
-    let new = c.statement_alike-is.new.s in
+    let new = c.statement_alike.new.s in
     let told = c.in_ok-is.ensures in
     record {
       alike = alike_more x name all i s c.loop-statement-test.true c.statement-item.is (knows x old) (knows x new) (tells x old) (tells x new) told.known told.told
@@ -54,8 +54,7 @@ statement_alike-returns-in_ok-is-in-Act t c =
     let name = c.args.name.now in
     let g = knows x c.args.s.now in
     let u = tells x c.args.s.now in
-    let new = c.act-is-in-Act.new.s in
-    let walked = by_form x name c.args.statement.now (plain.act (action_at x c.in-Act.action)) g (knows x new) u (tells x new) c.in_ok-is-in-Act.is
+    let walked = by_form x name c.args.statement.now (plain.act (action_at x c.in-Act.action)) g _ u _ c.in_ok-is-in-Act.is
     (is-Act x.tables.now (signature_of x.tables.now) c.args.statement.now c.in-Act.action c.in-Act.is) (record { alike = c.in_ok-is-in-Act.ensures.alike; known = c.in_ok-is-in-Act.ensures.known; told = c.in_ok-is-in-Act.ensures.told }) in
     record { alike = Walked.alike walked; known = Walked.known walked; told = Walked.told walked }
 
@@ -65,8 +64,7 @@ statement_alike-returns-in_ok-is-in-Set t c =
     let name = c.args.name.now in
     let g = knows x c.args.s.now in
     let u = tells x c.args.s.now in
-    let new = c.set-is-in-Set.new.s in
-    let walked = by_form x name c.args.statement.now (plain.set c.in-Set.register (action_at x c.in-Set.action)) g (knows x new) u (tells x new) c.in_ok-is-in-Set.is
+    let walked = by_form x name c.args.statement.now (plain.set c.in-Set.register (action_at x c.in-Set.action)) g _ u _ c.in_ok-is-in-Set.is
     (is-Set x.tables.now (signature_of x.tables.now) c.args.statement.now c.in-Set.register c.in-Set.action c.in-Set.is) (record { alike = c.in_ok-is-in-Set.ensures.alike; known = c.in_ok-is-in-Set.ensures.known; told = c.in_ok-is-in-Set.ensures.told }) in
     record { alike = Walked.alike walked; known = Walked.known walked; told = Walked.told walked }
 
@@ -92,14 +90,13 @@ statement_alike-returns-then-taken t c =
     let name = c.args.name.now in
     let g = knows x c.args.s.now in
     let u = tells x c.args.s.now in
-    let new = c.statements_alike-are-in-Some.new.s in
     let r = c.in-If.register in
     let yes = statements_at x c.in-If.yes in
     let no = statements_at x c.in-If.no in
     let o = c.in_ok-truth-in-If.truth in
     let truth = c.in_ok-truth-in-If.ensures in
-    let walked = by_form x name c.args.statement.now (plain.branch r yes no) g (knows x new) u (tells x new) (c.in_ok-number-in-If.number && c.in_ok-are-in-Some.are)
-    (is-If x.tables.now (signature_of x.tables.now) c.args.statement.now c.in-If.register c.in-If.yes c.in-If.no c.in-If.is) (record { alike = true_alike x name g u r yes no o truth c.in_ok-number-in-If.number c.in_ok-are-in-Some.are c.in_ok-number-in-If.ensures c.in-Some.taken c.in-Some.is c.if-taken.true c.in_ok-are-in-Some.ensures.alike; known = true_known x name g u r yes no o truth c.in-Some.taken c.in-Some.is (knows x new) c.if-taken.true c.in_ok-are-in-Some.ensures.known; told = true_told x name g u r yes no o truth c.in-Some.taken c.in-Some.is (tells x new) c.if-taken.true c.in_ok-are-in-Some.ensures.told }) in
+    let walked = by_form x name c.args.statement.now (plain.branch r yes no) g _ u _ (c.in_ok-number-in-If.number && c.in_ok-are-in-Some.are)
+    (is-If x.tables.now (signature_of x.tables.now) c.args.statement.now c.in-If.register c.in-If.yes c.in-If.no c.in-If.is) (record { alike = true_alike x name g u r yes no o truth c.in_ok-number-in-If.number c.in_ok-are-in-Some.are c.in_ok-number-in-If.ensures c.in-Some.taken c.in-Some.is c.if-taken.true c.in_ok-are-in-Some.ensures.alike; known = true_known x name g u r yes no o truth c.in-Some.taken c.in-Some.is _ c.if-taken.true c.in_ok-are-in-Some.ensures.known; told = true_told x name g u r yes no o truth c.in-Some.taken c.in-Some.is _ c.if-taken.true c.in_ok-are-in-Some.ensures.told }) in
     record { alike = Walked.alike walked; known = Walked.known walked; told = Walked.told walked }
 
 pub statement_alike-returns-in_ok-are-in-Some-2 : goal.statement_alike-returns-in_ok-are-in-Some-2
@@ -108,14 +105,13 @@ statement_alike-returns-in_ok-are-in-Some-2 t c =
     let name = c.args.name.now in
     let g = knows x c.args.s.now in
     let u = tells x c.args.s.now in
-    let new = c.statements_alike-are-in-Some-2.new.s in
     let r = c.in-If.register in
     let yes = statements_at x c.in-If.yes in
     let no = statements_at x c.in-If.no in
     let o = c.in_ok-truth-in-If.truth in
     let truth = c.in_ok-truth-in-If.ensures in
-    let walked = by_form x name c.args.statement.now (plain.branch r yes no) g (knows x new) u (tells x new) (c.in_ok-number-in-If.number && c.in_ok-are-in-Some-2.are)
-    (is-If x.tables.now (signature_of x.tables.now) c.args.statement.now c.in-If.register c.in-If.yes c.in-If.no c.in-If.is) (record { alike = false_alike x name g u r yes no o truth c.in_ok-number-in-If.number c.in_ok-are-in-Some-2.are c.in_ok-number-in-If.ensures c.in-Some.taken c.in-Some.is c.if-taken.false c.in_ok-are-in-Some-2.ensures.alike; known = false_known x name g u r yes no o truth c.in-Some.taken c.in-Some.is (knows x new) c.if-taken.false c.in_ok-are-in-Some-2.ensures.known; told = false_told x name g u r yes no o truth c.in-Some.taken c.in-Some.is (tells x new) c.if-taken.false c.in_ok-are-in-Some-2.ensures.told }) in
+    let walked = by_form x name c.args.statement.now (plain.branch r yes no) g _ u _ (c.in_ok-number-in-If.number && c.in_ok-are-in-Some-2.are)
+    (is-If x.tables.now (signature_of x.tables.now) c.args.statement.now c.in-If.register c.in-If.yes c.in-If.no c.in-If.is) (record { alike = false_alike x name g u r yes no o truth c.in_ok-number-in-If.number c.in_ok-are-in-Some-2.are c.in_ok-number-in-If.ensures c.in-Some.taken c.in-Some.is c.if-taken.false c.in_ok-are-in-Some-2.ensures.alike; known = false_known x name g u r yes no o truth c.in-Some.taken c.in-Some.is _ c.if-taken.false c.in_ok-are-in-Some-2.ensures.known; told = false_told x name g u r yes no o truth c.in-Some.taken c.in-Some.is _ c.if-taken.false c.in_ok-are-in-Some-2.ensures.told }) in
     record { alike = Walked.alike walked; known = Walked.known walked; told = Walked.told walked }
 
 pub statement_alike-returns-in-Loop : goal.statement_alike-returns-in-Loop
