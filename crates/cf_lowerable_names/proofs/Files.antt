@@ -41,6 +41,9 @@ nil_right (x ∷ xs) ys e = cc
 skipped : (xs ys : List Item) → flat_map variable_names xs ≡ [] → flat_map variable_names (xs ++ ys) ≡ flat_map variable_names ys
 skipped xs ys none = flat_map-append variable_names xs ys ∙ ap (λ l. l ++ flat_map variable_names ys) none
 
+dropped : (xs ys : List Item) → flat_map variable_names ys ≡ [] → flat_map variable_names (xs ++ ys) ≡ flat_map variable_names xs
+dropped xs ys none = flat_map-append variable_names xs ys ∙ ap (λ l. flat_map variable_names xs ++ l) none ∙ append-nil (flat_map variable_names xs)
+
 -- where each item gives none
 none_each : {A : Type 0} (h : A → List Item) → ((x : A) → flat_map variable_names (h x) ≡ []) → (xs : List A) → flat_map variable_names (flat_map h xs) ≡ []
 none_each h none [] = refl
@@ -87,7 +90,7 @@ names_are : (tables : Tables) (fs : List PlainFn) → map name_of (map (λ (f : 
 names_are tables [] = refl
 names_are tables (f ∷ fs) = ap (λ l. f.name ∷ l) (names_are tables fs)
 
-or_grouped : (a b c d : Bool) → (a || (b || (c || d))) ≡ ((a || (b || c)) || d)
+or_grouped : (a b c d : Bool) → (a || (b || (c || d))) ≡ (((a || b) || c) || d)
 or_grouped true b c d = refl
 or_grouped false true c d = refl
 or_grouped false false c d = refl
@@ -111,11 +114,12 @@ module _ (file : PlainFile) where
       let start = constants_function stored in
       let own = own_variables file in
       let variables = map (lowered_static file.classes) file.statics ++ flat_map literals file.functions ++ flat_map start_literals file.statics in
-      skipped library (own_prototypes file ++ defined_elsewhere file ++ own ++ functions ++ start) refl
-      ∙ skipped (own_prototypes file) (defined_elsewhere file ++ own ++ functions ++ start) (none_declared file.functions)
-      ∙ skipped (defined_elsewhere file) (own ++ functions ++ start) none_elsewhere ∙ flat_map-append variable_names own (functions ++ start)
-      ∙ ap (λ l. flat_map variable_names own ++ l) (skipped functions start (none_defined file.classes file.functions) ∙ none_stored stored)
-      ∙ append-nil (flat_map variable_names own) ∙ variables_named variables
+      let front = library ++ own_prototypes file ++ defined_elsewhere file in
+      dropped (front ++ own ++ functions) start (none_stored stored) ∙ dropped (front ++ own) functions (none_defined file.classes file.functions)
+      ∙ flat_map-append variable_names front own
+      ∙ ap (λ l. l ++ flat_map variable_names own)
+      (dropped (library ++ own_prototypes file) (defined_elsewhere file) none_elsewhere ∙ skipped library (own_prototypes file) refl ∙ none_declared file.functions)
+      ∙ variables_named variables
 
 module _ (tables : Tables) (fs : List PlainFn) (xs : List PlainStatic) where
   abbrev file : PlainFile
@@ -126,12 +130,12 @@ module _ (tables : Tables) (fs : List PlainFn) (xs : List PlainStatic) where
   known_is q =
       let variables = map name_of (own_variables file) in
       let used = is_in (flat_map uses_of_item (lowered_file file)) q in
-      let own : is_in (own_names file) q ≡ (is_in library_names q || (is_in (names_of fs) q || is_in variables q)) =
-      ap (λ l. is_in l q) (map-append name_of library (own_prototypes file ++ own_variables file))
-      ∙ in_both q library_names (map name_of (own_prototypes file ++ own_variables file))
-      ∙ ap (λ b. is_in library_names q || b)
-      (ap (λ l. is_in l q) (map-append name_of (own_prototypes file) (own_variables file)) ∙ in_both q (map name_of (own_prototypes file)) variables
-      ∙ ap (λ l. is_in l q || is_in variables q) (names_are tables fs)) in
+      let own : is_in (own_names file) q ≡ ((is_in library_names q || is_in (names_of fs) q) || is_in variables q) =
+      ap (λ l. is_in l q) (map-append name_of (library ++ own_prototypes file) (own_variables file))
+      ∙ in_both q (map name_of (library ++ own_prototypes file)) variables
+      ∙ ap (λ b. b || is_in variables q)
+      (ap (λ l. is_in l q) (map-append name_of library (own_prototypes file)) ∙ in_both q library_names (map name_of (own_prototypes file))
+      ∙ ap (λ l. is_in library_names q || is_in l q) (names_are tables fs)) in
       ap (λ b. is_in library_names q || (is_in (names_of fs) q || b))
       (in_either q variable_names uses_of_item (lowered_file file) ∙ ap (λ l. is_in l q || used) (variables_lowered file))
       ∙ or_grouped (is_in library_names q) (is_in (names_of fs) q) (is_in variables q) used ∙ sym (ap (λ b. b || used) own)
@@ -194,7 +198,7 @@ module _ (unit : PlainUnit) (tables : Tables) (types : Table) (classes : ClassTa
     both_used = used_is tables fs xs names items (lowered ∙ sym lowered_of_unit) known ∙ used_of_unit
 
     pub not_used : (a : Bool) → a ≡ functions_in names tables fs → a ≡ false → false ≡ names_used (file_of unit)
-    not_used a is no = sym (ap (λ b. b && statics_in names tables xs) (sym is ∙ no)) ∙ both_used
+    not_used a is none = sym (ap (λ b. b && statics_in names tables xs) (sym is ∙ none)) ∙ both_used
 
     pub are_used : (a b : Bool) → a ≡ functions_in names tables fs → a ≡ true → b ≡ statics_in names tables xs → b ≡ names_used (file_of unit)
-    are_used a b is yes there = there ∙ sym (ap (λ c. c && statics_in names tables xs) (sym is ∙ yes)) ∙ both_used
+    are_used a b is all there = there ∙ sym (ap (λ c. c && statics_in names tables xs) (sym is ∙ all)) ∙ both_used

@@ -27,30 +27,30 @@ module _ (tables : Tables) where
       by (p ∷ ps) = refl
 
   pub other_const : (v : Ty) → ((u : ℕ) → v ≡ ty.Const u → ⊥) → is_const (type_step tables (type_of tables) v) ≡ false
-  other_const (ty.Const u) no = absurd (no u refl)
-  other_const ty.Void no = refl
-  other_const (ty.Int k) no = refl
-  other_const (ty.Enum e) no = refl
-  other_const (ty.Class c) no = refl
-  other_const (ty.Ptr u) no = refl
-  other_const (ty.Ref u) no = refl
-  other_const (ty.Array u n) no = refl
-  other_const (ty.Fun f) no = function_const (slice_get tables.types.funs f)
-  other_const (ty.MemData c u) no = refl
-  other_const (ty.MemFun c f) no = refl
+  other_const (ty.Const u) other = absurd (other u refl)
+  other_const ty.Void other = refl
+  other_const (ty.Int k) other = refl
+  other_const (ty.Enum e) other = refl
+  other_const (ty.Class c) other = refl
+  other_const (ty.Ptr u) other = refl
+  other_const (ty.Ref u) other = refl
+  other_const (ty.Array u n) other = refl
+  other_const (ty.Fun f) other = function_const (slice_get tables.types.funs f)
+  other_const (ty.MemData c u) other = refl
+  other_const (ty.MemFun c f) other = refl
 
   pub other_once : (v : Ty) → ((u : ℕ) → v ≡ ty.Const u → ⊥) → ((u n : ℕ) → v ≡ ty.Array u n → ⊥) → const_once (type_step tables (type_of tables) v) ≡ true
-  other_once (ty.Const u) no none = absurd (no u refl)
-  other_once (ty.Array u n) no none = absurd (none u n refl)
-  other_once ty.Void no none = refl
-  other_once (ty.Int k) no none = refl
-  other_once (ty.Enum e) no none = refl
-  other_once (ty.Class c) no none = refl
-  other_once (ty.Ptr u) no none = refl
-  other_once (ty.Ref u) no none = refl
-  other_once (ty.Fun f) no none = function_once (slice_get tables.types.funs f)
-  other_once (ty.MemData c u) no none = refl
-  other_once (ty.MemFun c f) no none = refl
+  other_once (ty.Const u) other none = absurd (other u refl)
+  other_once (ty.Array u n) other none = absurd (none u n refl)
+  other_once ty.Void other none = refl
+  other_once (ty.Int k) other none = refl
+  other_once (ty.Enum e) other none = refl
+  other_once (ty.Class c) other none = refl
+  other_once (ty.Ptr u) other none = refl
+  other_once (ty.Ref u) other none = refl
+  other_once (ty.Fun f) other none = function_once (slice_get tables.types.funs f)
+  other_once (ty.MemData c u) other none = refl
+  other_once (ty.MemFun c f) other none = refl
 
   -- whether it is a reference, by what it refers to
   pub refers_some : (t : ℕ) (o : Option ℕ) (u : ℕ) → Refers tables t o → o ≡ Some u → true ≡ is_reference (type_of tables t)

@@ -18,7 +18,7 @@ and_false true = refl
 and_false false = refl
 
 -- a function type, from the last parameter on
-typed : Tables → Fun → List ℕ → SourceType
+abbrev typed : Tables → Fun → List ℕ → SourceType
 typed tables f ps = without_const (taking (map (type_of tables) ps) (gives (type_of tables f.result) f.is_const))
 
 module _ (tables : Tables) where
@@ -116,35 +116,35 @@ module _ (tables : Tables) where
   -- and that is none
   module _ (w : SourceType) where
     other_int : (x : Form) → ((f : ℕ) → x ≡ form.Function f → ⊥) → false ≡ type_eq (of_int w) (form_type tables x)
-    other_int (form.Function f) no = absurd (no f refl)
-    other_int form.Void no = refl
-    other_int (form.Integer k) no = refl
-    other_int (form.Enumeration e) no = refl
-    other_int (form.Class c) no = refl
-    other_int (form.Pointer t) no = refl
-    other_int (form.Reference t) no = refl
-    other_int (form.Array t n) no = refl
-    other_int (form.DataMember c t) no = refl
-    other_int (form.FunctionMember c f) no = refl
+    other_int (form.Function f) other = absurd (other f refl)
+    other_int form.Void other = refl
+    other_int (form.Integer k) other = refl
+    other_int (form.Enumeration e) other = refl
+    other_int (form.Class c) other = refl
+    other_int (form.Pointer t) other = refl
+    other_int (form.Reference t) other = refl
+    other_int (form.Array t n) other = refl
+    other_int (form.DataMember c t) other = refl
+    other_int (form.FunctionMember c f) other = refl
 
     other_none : (x : Form) → ((f : ℕ) → x ≡ form.Function f → ⊥) → false ≡ type_eq (gives w false) (form_type tables x)
-    other_none (form.Function f) no = absurd (no f refl)
-    other_none form.Void no = refl
-    other_none (form.Integer k) no = refl
-    other_none (form.Enumeration e) no = refl
-    other_none (form.Class c) no = refl
-    other_none (form.Pointer t) no = refl
-    other_none (form.Reference t) no = refl
-    other_none (form.Array t n) no = refl
-    other_none (form.DataMember c t) no = refl
-    other_none (form.FunctionMember c f) no = refl
+    other_none (form.Function f) other = absurd (other f refl)
+    other_none form.Void other = refl
+    other_none (form.Integer k) other = refl
+    other_none (form.Enumeration e) other = refl
+    other_none (form.Class c) other = refl
+    other_none (form.Pointer t) other = refl
+    other_none (form.Reference t) other = refl
+    other_none (form.Array t n) other = refl
+    other_none (form.DataMember c t) other = refl
+    other_none (form.FunctionMember c f) other = refl
 
-    module _ (t : ℕ) (x : Form) (e : bare tables t ≡ form_type tables x) (no : (f : ℕ) → x ≡ form.Function f → ⊥) where
+    module _ (t : ℕ) (x : Form) (e : bare tables t ≡ form_type tables x) (other : (f : ℕ) → x ≡ form.Function f → ⊥) where
       pub no_head_of_int : false ≡ type_eq (of_int w) (bare tables t)
-      no_head_of_int = other_int x no ∙ sym (ap (type_eq (of_int w)) e)
+      no_head_of_int = other_int x other ∙ sym (ap (type_eq (of_int w)) e)
 
       pub no_head_of_none : false ≡ type_eq (gives w false) (bare tables t)
-      no_head_of_none = other_none x no ∙ sym (ap (type_eq (gives w false)) e)
+      no_head_of_none = other_none x other ∙ sym (ap (type_eq (gives w false)) e)
 
 pub empty_taken : (ps : List ℕ) → (length ps == 0) ≡ takes_nothing ps
 empty_taken [] = refl

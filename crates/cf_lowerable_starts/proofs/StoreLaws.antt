@@ -28,21 +28,21 @@ module _ (tables : Tables) (name : Name) (k : CodeKnown) (of : Name) (y : Known)
 module _ (name : Name) (g : Register → Known) (t : Told) (r : Register) (a : Bool) (own : a ≡ is_own name (g r) (t.facts r)) where
   module _ (q : Register) where
     pub not_own : a ≡ false → false ≡ act_alike name g t (plain.first r q)
-    not_own no = sym (ap (λ b. b && fits_first (g r) (g q) (t.facts q)) (sym own ∙ no))
+    not_own other = sym (ap (λ b. b && fits_first (g r) (g q) (t.facts q)) (sym own ∙ other))
 
     pub own_fits : (b : Bool) → a ≡ true → b ≡ fits_first (g r) (g q) (t.facts q) → b ≡ act_alike name g t (plain.first r q)
-    own_fits b yes fits = fits ∙ sym (ap (λ v. v && fits_first (g r) (g q) (t.facts q)) (sym own ∙ yes))
+    own_fits b same fits = fits ∙ sym (ap (λ v. v && fits_first (g r) (g q) (t.facts q)) (sym own ∙ same))
 
   module _ (bs : List ℕ) where
     pub no_bytes : a ≡ false → false ≡ act_alike name g t (plain.bytes r bs)
-    no_bytes no = sym (ap (λ b. b && (is_clear name (g r) t.parts && takes_bytes (g r))) (sym own ∙ no))
+    no_bytes other = sym (ap (λ b. (b && is_clear name (g r) t.parts) && takes_bytes (g r)) (sym own ∙ other))
 
-    module _ (c : Bool) (yes : a ≡ true) (clear : c ≡ is_clear name (g r) t.parts) where
+    module _ (c : Bool) (same : a ≡ true) (clear : c ≡ is_clear name (g r) t.parts) where
       clear_by : (is_clear name (g r) t.parts && takes_bytes (g r)) ≡ act_alike name g t (plain.bytes r bs)
-      clear_by = sym (ap (λ b. b && (is_clear name (g r) t.parts && takes_bytes (g r))) (sym own ∙ yes))
+      clear_by = sym (ap (λ b. (b && is_clear name (g r) t.parts) && takes_bytes (g r)) (sym own ∙ same))
 
       pub not_clear : c ≡ false → false ≡ act_alike name g t (plain.bytes r bs)
-      not_clear no = sym (ap (λ b. b && takes_bytes (g r)) (sym clear ∙ no)) ∙ clear_by
+      not_clear other = sym (ap (λ b. b && takes_bytes (g r)) (sym clear ∙ other)) ∙ clear_by
 
       pub clear_takes : (b : Bool) → c ≡ true → b ≡ takes_bytes (g r) → b ≡ act_alike name g t (plain.bytes r bs)
       clear_takes b so takes = takes ∙ sym (ap (λ v. v && takes_bytes (g r)) (sym clear ∙ so)) ∙ clear_by
@@ -51,15 +51,15 @@ module _ (name : Name) (g : Register → Known) (t : Told) (r : Register) (a : B
 
 module _ (name of : Name) (o : ℕ) (t : SourceType) (ps : List Part) where
   pub other_name : bytes_eq of name ≡ false → false ≡ is_clear name (at of o t) ps
-  other_name no = sym (ap (λ b. b && (not (is_void t) && clear_of o (size [] t) ps)) no)
+  other_name other = sym (ap (λ b. (b && not (is_void t)) && clear_of o (size [] t) ps) other)
 
-  module _ (yes : bytes_eq of name ≡ true) (v : Bool) (void : v ≡ is_void t) where
+  module _ (same : bytes_eq of name ≡ true) (v : Bool) (void : v ≡ is_void t) where
     named_by : (not (is_void t) && clear_of o (size [] t) ps) ≡ is_clear name (at of o t) ps
-    named_by = sym (ap (λ b. b && (not (is_void t) && clear_of o (size [] t) ps)) yes)
+    named_by = sym (ap (λ b. (b && not (is_void t)) && clear_of o (size [] t) ps) same)
 
     pub void_not_clear : v ≡ true → false ≡ is_clear name (at of o t) ps
     void_not_clear so = sym (ap (λ b. not b && clear_of o (size [] t) ps) (sym void ∙ so)) ∙ named_by
 
     pub clear_there : (n : ℕ) (b : Bool) → v ≡ false → n ≡ size [] t → b ≡ clear_of o n ps → b ≡ is_clear name (at of o t) ps
-    clear_there n b no bytes clear =
-        clear ∙ ap (λ m. clear_of o m ps) bytes ∙ sym (ap (λ c. not c && clear_of o (size [] t) ps) (sym void ∙ no)) ∙ named_by
+    clear_there n b other bytes clear =
+        clear ∙ ap (λ m. clear_of o m ps) bytes ∙ sym (ap (λ c. not c && clear_of o (size [] t) ps) (sym void ∙ other)) ∙ named_by

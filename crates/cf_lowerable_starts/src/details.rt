@@ -178,7 +178,12 @@ pub(crate) fn pointer_detail(
 }
 
 /// What is known of a pointer to the first element of an array (4.6).
-pub(crate) fn decayed_detail(tables: &Tables<'_>, fact: &Fact, target: &Target, detail: Detail) -> Detail
+pub(crate) fn decayed_detail(
+    tables: &Tables<'_>,
+    fact: &Fact,
+    target: &Target,
+    detail: Detail,
+) -> Detail
     ensures { (n : NameOf) → detail_in tables.now result ≡ alike.decayed_fact (fact_in tables.now fact.now target.now n) (detail_in tables.now detail) }
 {
     match fact {

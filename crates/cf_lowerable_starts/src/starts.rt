@@ -26,11 +26,7 @@ fn owner_of(object: &PlainStatic) -> &[u8]
 }
 
 /// Whether the initialiser of a static object does the same in the C.
-fn start_alike(
-    alloc: Global,
-    tables: &Tables<'_>,
-    object: &PlainStatic,
-) -> Result<bool, Memory>
+fn start_alike(alloc: Global, tables: &Tables<'_>, object: &PlainStatic) -> Result<bool, Memory>
     ensures { IfOk result (λ is. is ≡ alike.start_alike (static_of tables.now object.now)) }
 {
     let site = Site {
@@ -43,11 +39,7 @@ fn start_alike(
 }
 
 /// The same of all.
-fn all_alike(
-    alloc: Global,
-    tables: &Tables<'_>,
-    statics: &[PlainStatic],
-) -> Result<bool, Memory>
+fn all_alike(alloc: Global, tables: &Tables<'_>, statics: &[PlainStatic]) -> Result<bool, Memory>
     ensures { IfOk result (λ are. are ≡ list_all alike.start_alike (map (static_of tables.now) statics.now)) }
 {
     for object in statics {

@@ -119,13 +119,7 @@ fn takes_bytes(tables: &Tables<'_>, fact: &Fact, target: &Target) -> Result<bool
 }
 
 /// Whether a scalar of the named object gets a value of its type.
-fn first_alike(
-    x: &Site<'_>,
-    name: &[u8],
-    s: &State,
-    place: u32,
-    value: u32,
-) -> Result<bool, Memory>
+fn first_alike(x: &Site<'_>, name: &[u8], s: &State, place: u32, value: u32) -> Result<bool, Memory>
     ensures { IfOk result (λ is. is ≡ alike.act_alike name.now (knows x.now s.now) (tells x.now s.now) (plain.first place value)) }
 {
     let at = s.known.get(x.alloc, place)?;
@@ -183,12 +177,7 @@ fn bytes_alike(x: &Site<'_>, name: &[u8], s: &State, place: u32) -> Result<bool,
 }
 
 /// Whether an action whose value is not kept does the same in the C.
-pub(crate) fn act_alike(
-    x: &Site<'_>,
-    name: &[u8],
-    s: &State,
-    a: &Action,
-) -> Result<bool, Memory>
+pub(crate) fn act_alike(x: &Site<'_>, name: &[u8], s: &State, a: &Action) -> Result<bool, Memory>
     ensures { IfOk result (λ is. is ≡ alike.act_alike name.now (knows x.now s.now) (tells x.now s.now) (action_at x.now a.now)) }
 {
     match a {
