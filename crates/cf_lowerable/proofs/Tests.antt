@@ -1,5 +1,5 @@
 -- A file passes all tests just where it passes each.
-use Rattle.std.proofs.Common.{◌≡◌, true, ◌&&◌}
+use Rattle.std.proofs.Common.{◌≡◌, Bool, true, false, ◌&&◌, sym, ap, ◌∙◌}
 use Rattle.cf_base.proofs.Tests.{all_of, both}
 use Rattle.cf_plain.specs.Plain.{PlainFile}
 use Rattle.cf_lower_kept.specs.Opened.{functions_open}
@@ -22,3 +22,26 @@ module _ (file : PlainFile) where
       all_of (starts_alike file) (functions_open file && (functions_in_place file && names_used file)) (Left.starts left)
       (all_of (functions_open file) (functions_in_place file && names_used file) (Left.opened left)
       (all_of (functions_in_place file) (names_used file) (Left.places left) (Left.used left)))
+
+  -- ---- by each test in turn
+
+  module _ (a : Bool) (starts : a ≡ starts_alike file) where
+    pub no_starts : a ≡ false → false ≡ left_passes file
+    no_starts fails = sym (ap (λ v. v && (functions_open file && (functions_in_place file && names_used file))) (sym starts ∙ fails))
+
+    module _ (so : a ≡ true) (b : Bool) (opened : b ≡ functions_open file) where
+      past_starts : (functions_open file && (functions_in_place file && names_used file)) ≡ left_passes file
+      past_starts = sym (ap (λ v. v && (functions_open file && (functions_in_place file && names_used file))) (sym starts ∙ so))
+
+      pub not_open : b ≡ false → false ≡ left_passes file
+      not_open fails = sym (ap (λ v. v && (functions_in_place file && names_used file)) (sym opened ∙ fails)) ∙ past_starts
+
+      module _ (too : b ≡ true) (d : Bool) (placed : d ≡ functions_in_place file) where
+        past_open : (functions_in_place file && names_used file) ≡ left_passes file
+        past_open = sym (ap (λ v. v && (functions_in_place file && names_used file)) (sym opened ∙ too)) ∙ past_starts
+
+        pub not_placed : d ≡ false → false ≡ left_passes file
+        not_placed fails = sym (ap (λ v. v && names_used file) (sym placed ∙ fails)) ∙ past_open
+
+        pub all_pass : (e : Bool) → d ≡ true → e ≡ names_used file → e ≡ left_passes file
+        all_pass e last used = used ∙ sym (ap (λ v. v && names_used file) (sym placed ∙ last)) ∙ past_open

@@ -22,13 +22,16 @@ fn passes(alloc: Global, made: &PlainUnit) -> Result<bool, Memory>
     requires kept { functions_kept (file_of made.now) ≡ true }
     ensures { IfOk result (λ is. is ≡ left_passes (file_of made.now)) }
 {
-    if !starts_are_alike(alloc, made)? {
+    let starts = starts_are_alike(alloc, made)?;
+    if !starts {
         return Ok(false);
     }
-    if !functions_are_open(alloc, made)? {
+    let open = functions_are_open(alloc, made)?;
+    if !open {
         return Ok(false);
     }
-    if !functions_are_in_place(alloc, made)? {
+    let placed = functions_are_in_place(alloc, made)?;
+    if !placed {
         return Ok(false);
     }
     let used = names_are_used(alloc, made)?;
