@@ -25,7 +25,7 @@ use Rattle.cf_lower.specs.Functions.{constants_function, declared_at, defined_el
 use Rattle.cf_lower_program.specs.Names.{names_used, own_names}
 use Rattle.cf_lower_types.specs.Bare.{classes_of}
 use Rattle.cf_lower_unit.specs.Pieces.{file_with}
-use Rattle.cf_lowerable_names.specs.Given.{are_in, functions_in, given_by, is_known, library_names, names_of, statics_in, variable_names}
+use Rattle.cf_lowerable_names.specs.Given.{are_in, functions_in, is_known, library_names, names_of, statics_in, variable_names}
 use Rattle.cf_lowerable_names.proofs.Among.{all_same, in_both, in_either}
 
 -- ---- the variables that items define

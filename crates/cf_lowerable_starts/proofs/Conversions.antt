@@ -1,5 +1,5 @@
 -- What is known of what is converted to a type, by the type's form.
-use Rattle.std.proofs.Common.{◌≡◌, ℕ, Bool, true, false, List, [], ◌∷◌, map, Option, Some, None, slice_get, refl, sym, ap, ◌∙◌}
+use Rattle.std.proofs.Common.{◌≡◌, ℕ, Bool, false, List, [], ◌∷◌, map, Option, Some, None, slice_get, refl, sym, ap, ◌∙◌}
 use Rattle.cf_base.specs.declared.kind.Kind.{Kind}
 use Rattle.cf_types.specs.declared.ty.Fun.{Fun}
 use Rattle.cf_core.specs.FromTypes.{Tables, type_of, fun_type, taking}

@@ -1,8 +1,8 @@
 -- The parts that are set, from the last one on.
-use Rattle.std.proofs.Common.{◌≡◌, ℕ, ◌+◌, Bool, true, false, ◌&&◌, ◌||◌, List, [], ◌∷◌, ◌++◌, map, reverse, refl, sym, ap, ◌∙◌}
+use Rattle.std.proofs.Common.{◌≡◌, ℕ, ◌+◌, Bool, true, false, ◌&&◌, ◌||◌, List, [], ◌∷◌, ◌++◌, map, reverse, sym, ap, ◌∙◌}
 use Rattle.std.specs.Prelude.{nat_le}
 use Rattle.std.proofs.lemmas.List.{map-append, reverse-append}
-use Rattle.cf_lower_program.specs.Alike.{Part, clear_of}
+use Rattle.cf_lower_program.specs.Alike.{clear_of}
 use Rattle.cf_lowerable_starts.specs.declared.parts.Part.{Part as CodePart}
 use Rattle.cf_lowerable_starts.specs.Telling.{part_in, parts_in}
 

@@ -3,12 +3,10 @@ use Rattle.std.proofs.Common.{◌≡◌, ℕ, List, [], ◌∷◌, ap, ◌∙◌
 use Rattle.cf_plain.specs.Plain.{Register}
 use Rattle.cf_lower_constants.specs.declared.site.Site.{Site}
 use Rattle.cf_lower_program.specs.Alike.{Fact, Part, Told, no_fact, nothing_told, tell}
-use Rattle.cf_lowerable_starts.specs.declared.details.Details.{Details}
 use Rattle.cf_lowerable_starts.specs.declared.parts.Part.{Part as CodePart}
 use Rattle.cf_lowerable_starts.specs.declared.state.State.{State}
 use Rattle.cf_lowerable_starts.specs.Telling.{details_in, part_in, parts_in, tells}
 use Rattle.cf_lowerable_starts.proofs.DetailLaws.{none_told}
-use Rattle.cf_lowerable_starts.proofs.PartLaws.{one_more}
 
 abbrev pub both : (Register → Fact) → List Part → Told
 both facts parts = record { facts = facts; parts = parts }

@@ -1,6 +1,5 @@
 -- Types of places, without const.
-use Rattle.std.proofs.Common.{◌≡◌, ℕ, Bool, true, false, ◌&&◌, ◌||◌, not, List, [], Option, Some, None, refl, sym, ap, ◌∙◌}
-use Rattle.cf_core.specs.Classes.{Class}
+use Rattle.std.proofs.Common.{◌≡◌, ℕ, Bool, true, false, ◌||◌, [], Option, refl, sym, ap, ◌∙◌}
 use Rattle.cf_core.specs.FromClasses.{classes_in}
 use Rattle.cf_core.specs.FromTypes.{Tables, type_of}
 use Rattle.cf_core.specs.Size.{size}

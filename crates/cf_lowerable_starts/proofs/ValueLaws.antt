@@ -1,5 +1,5 @@
 -- Tests of what is known, by what it is.
-use Rattle.std.proofs.Common.{◌≡◌, ℕ, Bool, true, false, ◌&&◌, ◌||◌, not, refl, sym, ap, ◌∙◌}
+use Rattle.std.proofs.Common.{◌≡◌, ℕ, Bool, true, false, ◌&&◌, ◌||◌, not, refl}
 use Rattle.cf_core.specs.declared.operators.PointerOperator.TheVariants as pointer
 use Rattle.cf_core.specs.Types.{Name, SourceType, is_void}
 use Rattle.cf_lower.specs.Constants.{Known, unknown, a_number, null, at, a_function}

@@ -1,7 +1,7 @@
 use Rattle.std.proofs.Common.{◌∷◌, ap, ◌∙◌}
 use Rattle.cf_lower_constants.specs.Knowing.{known_in}
 use Rattle.cf_lower_program.specs.Alike.{Part, part_of}
-use Rattle.cf_lowerable_starts.specs.Telling.{knows, tells}
+use Rattle.cf_lowerable_starts.specs.Telling.{tells}
 use Rattle.cf_lowerable_starts.proofs.StateLaws.{both}
 use Rattle.cf_lowerable_starts.proofs.stores.add_part.Goals as goal
 

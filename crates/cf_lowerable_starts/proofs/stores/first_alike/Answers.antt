@@ -1,6 +1,6 @@
 use Rattle.std.proofs.Common.{ap, ◌∙◌}
-use Rattle.cf_lower_constants.specs.Knowing.{fact_in, known_in}
-use Rattle.cf_lower_program.specs.Alike.{fits_first, is_own}
+use Rattle.cf_lower_constants.specs.Knowing.{known_in}
+use Rattle.cf_lower_program.specs.Alike.{fits_first}
 use Rattle.cf_lowerable_starts.specs.Telling.{detail_in, knows, tells}
 use Rattle.cf_lowerable_starts.proofs.StoreLaws.{not_own, own_fits, own_is}
 use Rattle.cf_lowerable_starts.proofs.stores.first_alike.Goals as goal

@@ -1,5 +1,4 @@
 use Rattle.std.proofs.Common.{◌&&◌, not, sym, ap, ◌∙◌}
-use Rattle.cf_core.specs.Types.{is_void}
 use Rattle.cf_core.specs.declared.operators.PointerOperator.TheVariants as pointer
 use Rattle.cf_lower_constants.specs.Knowing.{fact_in, target_in}
 use Rattle.cf_lower_program.specs.Alike as alike
