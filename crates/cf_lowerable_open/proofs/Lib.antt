@@ -1,0 +1,10 @@
+pub mod Advances
+pub mod Forms
+pub mod HeadLaws
+pub mod Heads
+pub mod Holding
+pub mod KeptLaws
+pub mod Lists
+pub mod ObjectLaws
+pub mod Steps
+pub mod WalkLaws

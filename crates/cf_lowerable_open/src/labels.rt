@@ -1,0 +1,178 @@
+//! What is open at the labels of a switch.
+
+ghost use Rattle.std.specs.Prelude.{◌≡◌, IfOk};
+ghost use Rattle.std.specs.Option.{option_map};
+ghost use Rattle.cf_lower_kept.specs.Opened as definition;
+ghost use Rattle.cf_lowerable_open.specs.Heads as spec;
+ghost use Rattle.cf_lowerable_open.specs.Views.{items_of, statements_in, statement_in, switched_in, ways_in, where_of};
+ghost use Rattle.cf_lowerable_open.specs.Walk as walk;
+
+use crate::ends::Where;
+use crate::heads::{Head, Switched, read_head, switch_in};
+use crate::lists::{is_listed, put};
+use crate::opened::Opened;
+use crate::scene::Scene;
+use crate::ways::{Labels, Ways};
+use cf_base::Memory;
+use cf_plain::Plain;
+
+/// Whether a statement is this label, a case or the default.
+fn is_label(label: Option<i64>, head: Head) -> bool
+    ensures { result ≡ spec.is_label label head }
+{
+    match (label, head) {
+        (Some(value), Head::Case(other)) => other <= value && value <= other,
+        (None, Head::Default) => true,
+        _ => false,
+    }
+}
+
+/// Whether a switch of these statements has this label.
+fn has_label(x: &Scene<'_>, label: Option<i64>, all: &[Plain]) -> bool
+    ensures { result ≡ spec.has_label label (statements_in x.now all.now) }
+{
+    for s in all {
+        if is_label(label, read_head(x, s)) {
+            return true;
+        }
+    }
+    false
+}
+
+/// Whether a statement may stand in a switch that declares what the labels of the next pass.
+fn may_stand(x: &Scene<'_>, head: Head, next: &[Plain]) -> bool
+    ensures { result ≡ spec.may_stand head (statements_in x.now next.now) }
+{
+    match head {
+        Head::Case(value) => has_label(x, Some(value), next),
+        Head::Default => has_label(x, None, next),
+        Head::Declares(_) => true,
+        Head::Leaves => true,
+        Head::Sets(_, _) | Head::Ends(_, _) | Head::Other => false,
+    }
+}
+
+/// Whether a switch has no label that the next has not, and declares and leaves alone. Quadratic in the number of labels.
+fn stands_before(x: &Scene<'_>, before: &[Plain], next: &[Plain]) -> bool
+    ensures { result ≡ definition.stands_before (statements_in x.now before.now) (statements_in x.now next.now) }
+{
+    for s in before {
+        if !may_stand(x, read_head(x, s), next) {
+            return false;
+        }
+    }
+    true
+}
+
+/// Whether a switch is by the same register as the next and stands before it.
+fn passes(x: &Scene<'_>, before: Option<Switched<'_>>, next: Option<Switched<'_>>) -> bool
+    ensures { result ≡ spec.passes (option_map (switched_in x.now) before) (option_map (switched_in x.now) next) }
+{
+    match (before, next) {
+        (Some(before), Some(next)) => {
+            before.register == next.register
+                && stands_before(x, before.body.as_slice(), next.body.as_slice())
+        }
+        _ => false,
+    }
+}
+
+/// The first of some statements, if it is a switch.
+fn first_switch<'a>(x: &Scene<'_>, all: &'a [Plain]) -> Option<Switched<'a>>
+    ensures { option_map (switched_in x.now) result ≡ spec.first_switch (statements_in x.now all.now) }
+{
+    match all.first() {
+        None => None,
+        Some(s) => switch_in(x, s),
+    }
+}
+
+/// Whether a statement is a switch that declares what the labels of the next statement pass.
+pub fn is_before(x: &Scene<'_>, s: &Plain, rest: &[Plain]) -> bool
+    ensures { result ≡ spec.passes (spec.as_switch (statement_in x.now s.now)) (spec.first_switch (statements_in x.now rest.now)) }
+{
+    passes(x, switch_in(x, s), first_switch(x, rest))
+}
+
+/// What is open where a switch is left, behind declarations alone.
+fn declared(
+    x: &Scene<'_>,
+    all: &[Plain],
+    here: Vec<Opened>,
+) -> Result<Option<Vec<Opened>>, Memory>
+    ensures { IfOk result (λ found. items_of found ≡ definition.declared (statements_in x.now all.now) here.items) }
+{
+    let mut made = here;
+    match all.split_first() {
+        None => Ok(None),
+        Some((s, rest)) => match read_head(x, s) {
+            Head::Declares(local) => {
+                if is_listed(local, made.as_slice()) {
+                    Ok(None)
+                } else {
+                    put(Opened::new(local, None, false), &mut made)?;
+                    declared(x, rest, made)
+                }
+            }
+            Head::Leaves => Ok(Some(made)),
+            _ => Ok(None),
+        },
+    }
+}
+
+/// What the switch before declares at this label, where these are open.
+fn declared_at(
+    x: &Scene<'_>,
+    before: &[Plain],
+    here: &[Opened],
+    label: Option<i64>,
+) -> Result<Option<Vec<Opened>>, Memory>
+    ensures { IfOk result (λ found. items_of found ≡ definition.declared_at (statements_in x.now before.now) here.now label) }
+{
+    for (index, s) in before.iter().enumerate() {
+        if is_label(label, read_head(x, s)) {
+            return declared(x, &before[index + 1..], Vec::from_slice(x.alloc, here)?);
+        }
+    }
+    Ok(None)
+}
+
+/// What is open at this label of the switch around, if it may stand there.
+pub fn at_label(
+    x: &Scene<'_>,
+    ways: &Ways<'_>,
+    label: Option<i64>,
+) -> Result<Option<Vec<Opened>>, Memory>
+    ensures { IfOk result (λ found. items_of found ≡ (ways_in x.now ways.now).labels label) }
+{
+    match ways.labels {
+        Labels::Nowhere => Ok(None),
+        Labels::Everywhere(here) => Ok(Some(Vec::from_slice(x.alloc, here)?)),
+        Labels::Passed(before, here) => declared_at(x, before.as_slice(), here, label),
+    }
+}
+
+/// What is open where control comes to a label alone.
+fn landed(found: Option<Vec<Opened>>) -> Where
+    ensures { where_of result ≡ walk.landed (items_of found) }
+{
+    match found {
+        None => Where::Wrong,
+        Some(here) => Where::Falls(here),
+    }
+}
+
+/// What is open behind a statement to which control does not come.
+pub fn land(x: &Scene<'_>, s: &Plain, ways: &Ways<'_>) -> Result<Where, Memory>
+    ensures { IfOk result (λ place. where_of place ≡ walk.landed_at (spec.label_of (spec.head_of (statement_in x.now s.now))) (ways_in x.now ways.now)) }
+{
+    match read_head(x, s) {
+        Head::Case(value) => Ok(landed(at_label(x, ways, Some(value))?)),
+        Head::Default => Ok(landed(at_label(x, ways, None)?)),
+        Head::Leaves
+        | Head::Declares(_)
+        | Head::Sets(_, _)
+        | Head::Ends(_, _)
+        | Head::Other => Ok(Where::Away),
+    }
+}

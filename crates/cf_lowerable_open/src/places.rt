@@ -1,0 +1,191 @@
+//! What is open behind statements that hold no others.
+
+ghost use Rattle.std.specs.Prelude.{◌≡◌, Some, map, IfOk, OnOk};
+ghost use Rattle.std.specs.Option.{option_copied};
+ghost use Rattle.cf_lower_kept.specs.Opened as definition;
+ghost use Rattle.cf_lower_kept.specs.Opened.{away, falls, settled};
+ghost use Rattle.cf_lowerable_open.specs.Objects as objects;
+ghost use Rattle.cf_lowerable_open.specs.Views.{action_in, holding, items_of, statements_in, ways_in, where_of};
+ghost use Rattle.cf_lowerable_open.specs.Walk as spec;
+ghost use Rattle.cf_lowerable_open.specs.declared.scene.Scene.{Scene as SceneOf};
+
+use crate::actions::{act, may_act, object_given};
+use crate::changes::{Change, change_all};
+use crate::ends::{Where, is_at};
+use crate::labels::at_label;
+use crate::lists::close_by;
+use crate::objects::Objects;
+use crate::opened::Opened;
+use crate::scene::Scene;
+use crate::ways::{Labels, Ways};
+use cf_base::{Items, Memory};
+use cf_plain::{Action, Plain};
+
+/// What is open where statements run any number of times, or from any label on.
+pub fn settle(here: Vec<Opened>) -> Vec<Opened>
+    ensures { result.items ≡ map settled here.items }
+{
+    let mut all = here;
+    change_all(&mut all, Change::Settled);
+    all
+}
+
+/// What is open where the register holds a number that is not 0.
+pub fn stand(register: u32, here: Vec<Opened>) -> Vec<Opened>
+    ensures { result.items ≡ definition.where_set register here.items }
+{
+    let mut all = here;
+    change_all(&mut all, Change::Standing(register));
+    all
+}
+
+/// What is open where the register holds 0.
+pub fn fall(x: &Scene<'_>, register: u32, here: &[Opened]) -> Result<Vec<Opened>, Memory>
+    ensures { IfOk result (λ all. all.items ≡ definition.where_unset register here.now) }
+{
+    let mut all = Vec::from_slice(x.alloc, here)?;
+    close_by(register, &mut all);
+    Ok(all)
+}
+
+/// Behind an action, whose value goes to this register, if to any.
+pub fn done(
+    x: &Scene<'_>,
+    g: &Objects,
+    register: Option<u32>,
+    a: &Action,
+    here: Vec<Opened>,
+) -> Result<Where, Memory>
+    ensures { IfOk result (λ place. where_of place ≡ spec.done (holding g.now) register (action_in x.now a.now) here.items) }
+{
+    let mut all = here;
+    if may_act(x, g, a, all.as_slice()) {
+        act(x, g, register, a, &mut all)?;
+        Ok(Where::Falls(all))
+    } else {
+        Ok(Where::Wrong)
+    }
+}
+
+/// The register gets another value.
+fn overwrite(register: u32, here: Vec<Opened>) -> Vec<Opened>
+    ensures { result.items ≡ definition.set_in register here.items }
+{
+    let mut all = here;
+    change_all(&mut all, Change::Overwritten(register));
+    all
+}
+
+/// Behind an action whose value goes to this register.
+pub fn set(
+    x: &Scene<'_>,
+    g: &mut Objects,
+    register: u32,
+    a: &Action,
+    here: Vec<Opened>,
+) -> Result<Where, Memory>
+    ensures place { IfOk result (λ place. where_of place ≡ spec.done (holding g.old) (Some register) (action_in x.now a.now) (definition.set_in register here.items)) }
+    ensures held { OnOk result (holding g.new ≡ objects.placed (holding g.old) register (objects.object_given (action_in x.now a.now))) }
+{
+    let place = done(x, g, Some(register), a, overwrite(register, here))?;
+    g.place(register, object_given(x, a))?;
+    Ok(place)
+}
+
+/// Behind a label to which control falls.
+pub fn labelled(
+    x: &Scene<'_>,
+    label: Option<i64>,
+    ways: &Ways<'_>,
+    here: Vec<Opened>,
+) -> Result<Where, Memory>
+    ensures { IfOk result (λ place. where_of place ≡ spec.labelled label (ways_in x.now ways.now) here.items) }
+{
+    let found = at_label(x, ways, label)?;
+    Ok(come_to(found, here))
+}
+
+/// Behind a label, where these are to be open, if it may stand there.
+fn come_to(found: Option<Vec<Opened>>, here: Vec<Opened>) -> Where
+    ensures { where_of result ≡ definition.only_if (definition.is_at (items_of found) here.items) (falls (map settled here.items)) }
+{
+    match found {
+        None => Where::Wrong,
+        Some(others) => {
+            if is_at(Some(others.as_slice()), here.as_slice()) {
+                Where::Falls(settle(here))
+            } else {
+                Where::Wrong
+            }
+        }
+    }
+}
+
+/// Where control leaves a loop or switch, or goes on with a loop, if just what is to be open there is.
+pub fn leave(way: Option<&[Opened]>, here: &[Opened]) -> Where
+    ensures { where_of result ≡ definition.only_if (definition.is_at (option_copied way) here.now) away }
+{
+    if is_at(way, here) {
+        Where::Away
+    } else {
+        Where::Wrong
+    }
+}
+
+/// Where a function is left.
+pub fn give(here: &[Opened]) -> Where
+    ensures { where_of result ≡ spec.given here.now }
+{
+    match here.first() {
+        None => Where::Away,
+        Some(_) => Where::Wrong,
+    }
+}
+
+/// What is around a loop's turn.
+pub fn in_turn<'a>(here: &'a [Opened]) -> Ways<'a>
+    ensures { (x : SceneOf) → ways_in x result ≡ spec.in_turn here.now }
+{
+    Ways {
+        breaks: Some(here),
+        continues: Some(here),
+        labels: Labels::Nowhere,
+    }
+}
+
+/// What is around what is done before a further turn.
+pub fn in_step<'a>(here: &'a [Opened]) -> Ways<'a>
+    ensures { (x : SceneOf) → ways_in x result ≡ spec.in_step here.now }
+{
+    Ways {
+        breaks: Some(here),
+        continues: None,
+        labels: Labels::Nowhere,
+    }
+}
+
+/// What is around the statements of a switch.
+pub fn in_switch<'a>(ways: &Ways<'a>, here: &'a [Opened]) -> Ways<'a>
+    ensures { (x : SceneOf) → ways_in x result ≡ spec.in_switch (ways_in x ways.now) here.now }
+{
+    Ways {
+        breaks: Some(here),
+        continues: ways.continues,
+        labels: Labels::Everywhere(here),
+    }
+}
+
+/// What is around the statements of a switch behind one that declares what its labels pass.
+pub fn in_passed<'a>(
+    ways: &Ways<'a>,
+    before: &'a Items<Plain>,
+    here: &'a [Opened],
+) -> Ways<'a>
+    ensures { (x : SceneOf) → ways_in x result ≡ spec.in_passed (ways_in x ways.now) (statements_in x before.now) here.now }
+{
+    Ways {
+        breaks: Some(here),
+        continues: ways.continues,
+        labels: Labels::Passed(before, here),
+    }
+}
