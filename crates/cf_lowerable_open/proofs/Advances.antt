@@ -54,10 +54,10 @@ module _ (x : Scene) (w : Ways) (all : List CodePlain) (i : ℕ) (s : CodePlain)
   behind_on held = ap (behind_all Rest) held ∙ sym (next_first x (λ ss. behind_all ss g) all i s within is)
 
   -- two at once
-  module _ (t : CodePlain) (then : i + 1 < length all) (at : t ≡ get_or all (i + 1) t) where
+  module _ (t : CodePlain) (next_in : i + 1 < length all) (at : t ≡ get_or all (i + 1) t) where
     two_first : {A : Type 0} (f : Plains → A) → f (statements_in x (drop i all)) ≡ f (more (statement_in x s) (more (statement_in x t) (statements_in x (drop (i + 2) all))))
     two_first f =
-        next_first x f all i s within is ∙ next_first x (λ ss. f (more (statement_in x s) ss)) all (i + 1) t then at
+        next_first x f all i s within is ∙ next_first x (λ ss. f (more (statement_in x s) ss)) all (i + 1) t next_in at
         ∙ ap (λ j. f (more (statement_in x s) (more (statement_in x t) (statements_in x (drop j all))))) (let two : i + 1 + 1 ≡ i + 2 = omega arith in two)
 
     pub two_on : (rest : List CodePlain) (v : Where) (xs : List Opened) → rest ≡ drop (i + 1) all
@@ -68,7 +68,7 @@ module _ (x : Scene) (w : Ways) (all : List CodePlain) (i : ℕ) (s : CodePlain)
         ap (λ u. onward u (statements_in x (drop (i + 2) all)) h w) made
         ∙ ap (λ k. onward (passed_behind (as_switch (statement_in x s)) (statement_in x t) w xs) (statements_in x (drop (i + 2) all)) k w) held
         ∙ passes_step (statement_in x s) (statement_in x t) (statements_in x (drop (i + 2) all)) g w xs
-          (sym (next_first x (λ ss. passes (as_switch (statement_in x s)) (first_switch ss)) all (i + 1) t then at)
+          (sym (next_first x (λ ss. passes (as_switch (statement_in x s)) (first_switch ss)) all (i + 1) t next_in at)
           ∙ sym (ap (λ (l : List CodePlain). passes (as_switch (statement_in x s)) (first_switch (statements_in x l))) same) ∙ passing)
         ∙ sym (two_first (λ ss. all_open ss g w xs))
 

@@ -5,7 +5,7 @@ use Rattle.cf_plain.specs.Plain.{Register, number, declare, finish, Plain, Plain
 use Rattle.cf_lower_kept.specs.Opened.{Opened, Where, falls, away, wrong, Ways, ended_by, or_behind, prepared, awaited, is_the_label, declared, declared_at, stands_before}
 use Rattle.cf_lowerable_open.specs.declared.heads.Head.{Head}
 use Rattle.cf_lowerable_open.specs.declared.heads.Head.TheVariants as head
-use Rattle.cf_lowerable_open.specs.Heads.{head_of, head_of_branch, ended_alone, is_nothing, is_set, ends, is_label, has_label, may_stand, declared_on, prepared_by, label_of}
+use Rattle.cf_lowerable_open.specs.Heads.{head_of, head_of_branch, ended_alone, is_nothing, is_set, is_end, ends, is_label, has_label, may_stand, declared_on, prepared_by, label_of}
 use Rattle.cf_lowerable_open.specs.Objects.{Objects, no_objects, behind}
 use Rattle.cf_lowerable_open.specs.Walk.{all_open, from_label, onward, landed, landed_at}
 
@@ -15,7 +15,7 @@ branch_head F same q None b = refl
 branch_head F same q (Some i) true = same q i
 branch_head F same q (Some i) false = refl
 
-pub ended_step : (r : Register) (s : Plain) (ss : Plains)
+ended_step : (r : Register) (s : Plain) (ss : Plains)
     → ended_by r (more s ss) ≡ (if is_set r (head_of s) then None else or_behind (ends r (head_of s)) (ended_by r ss))
 ended_step r (act (declare i t)) ss = refl
 ended_step r (act a) ss = refl
@@ -23,6 +23,17 @@ ended_step r (branch q (more (act (finish t i)) nothing) nothing) ss = refl
 ended_step r (branch q (more (act (finish t i)) nothing) (more u us)) ss = refl
 ended_step r (branch q vs bs) ss = refl
 ended_step r s ss = refl
+
+chosen_end : (b : Bool) (i : ℕ) (o : Option ℕ) → or_behind (if b then Some i else None) o ≡ (if b then (if b then Some i else None) else o)
+chosen_end true i o = refl
+chosen_end false i o = refl
+
+head_end : (r : Register) (h : Head) (o : Option ℕ) → (if is_set r h then None else or_behind (ends r h) o) ≡ (if is_end r h then ends r h else o)
+head_end r (head.Ends q i) o = chosen_end (q == r) i o
+head_end r h o = refl
+
+pub end_step : (r : Register) (s : Plain) (ss : Plains) → ended_by r (more s ss) ≡ (if is_end r (head_of s) then ends r (head_of s) else ended_by r ss)
+end_step r s ss = ended_step r s ss ∙ head_end r (head_of s) (ended_by r ss)
 
 pub prepared_step : (s : Plain) (ss : Plains) (xs : List Opened) → prepared_by (head_of s) ss xs ≡ prepared s ss xs
 prepared_step (act (declare i t)) ss xs = refl

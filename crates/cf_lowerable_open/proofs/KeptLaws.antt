@@ -126,18 +126,18 @@ module _ (locals : List SourceType) (result : SourceType) where
 
   -- ---- where operands are what is taken
 
-  record Behind (s : Plain) (rest : Plains) (g : Keeping) : Type 0 where
-    now : Keeping
-    is : after locals result s g ≡ Some now
-    goes : is_some (after_all locals result rest now) ≡ true
+  pub record Behind (s : Plain) (rest : Plains) (g : Keeping) : Type 0 where
+    pub now : Keeping
+    pub is : after locals result s g ≡ Some now
+    pub goes : is_some (after_all locals result rest now) ≡ true
 
   first_kept : (s : Plain) (rest : Plains) (g : Keeping) (p : Option Keeping) → after locals result s g ≡ p
       → is_some (elim p [ None ↦ None | Some h ↦ after_all locals result rest h ]) ≡ true → Behind s rest g
   first_kept s rest g None is e = absurd (cc)
   first_kept s rest g (Some h) is e = record { now = h; is = is; goes = e }
 
-  split : (s : Plain) (rest : Plains) (g : Keeping) → is_some (after_all locals result (more s rest) g) ≡ true → Behind s rest g
-  split s rest g e = first_kept s rest g (after locals result s g) refl e
+  behind_first : (s : Plain) (rest : Plains) (g : Keeping) → is_some (after_all locals result (more s rest) g) ≡ true → Behind s rest g
+  behind_first s rest g e = first_kept s rest g (after locals result s g) refl e
 
   both_some : (p q : Option Keeping) → is_some (joined locals result p q) ≡ true → (is_some p ≡ true) × (is_some q ≡ true)
   both_some None q e = absurd (cc)
@@ -283,11 +283,11 @@ module _ (locals : List SourceType) (result : SourceType) where
         let one = both (fits locals b c (switch q ss)) (loose b c (more (switch r ts) rest)) v in
         let two = both (fits locals b c (switch r ts)) (loose b c rest) one.1 in
         let inside = both (labels_differ locals ts) (labelled_fit locals c ts) two.0 in
-        let first = split (switch q ss) (more (switch r ts) rest) g k in
-        let second = split (switch r ts) rest first.now first.goes in
-        let at = at_keeping (switch q ss) g first.now b c one.0 e first.is in
-        let there = at_keeping (switch r ts) first.now second.now b c two.0 at.1 second.is in
-        let kept = turn_kept ts (integer_in (first.now r)) (untouched first.now ts) (ap is_some second.is) in
+        let near = behind_first (switch q ss) (more (switch r ts) rest) g k in
+        let far = behind_first (switch r ts) rest near.now near.goes in
+        let at = at_keeping (switch q ss) g near.now b c one.0 e near.is in
+        let there = at_keeping (switch r ts) near.now far.now b c two.0 at.1 far.is in
+        let kept = turn_kept ts (integer_in (near.now r)) (untouched near.now ts) (ap is_some far.is) in
         same_branch ((q == r) && stands_before ss ts)
         (if comes_to ys (definition.all_open locals result ts nothing_set (in_passed w ss ys) ys)
           then definition.all_open locals result rest (keeping_or (after locals result (switch r ts) (keeping_or (after locals result (switch q ss) g)))) w ys else wrong)
@@ -295,16 +295,16 @@ module _ (locals : List SourceType) (result : SourceType) where
         (if comes_to ys (walk.all_open ts no_objects (in_passed w ss ys) ys) then walk.all_open rest (behind (switch r ts) (behind (switch q ss) (objects g))) w ys else wrong)
         (Then (more (switch r ts) rest) (behind (switch q ss) (objects g)) w (walk.opens (switch q ss) (objects g) w xs))
         (pass_alike ys _ _ _ _ (all_alike true c ts nothing_set (in_passed w ss ys) ys (labelled_loose c ts inside.1) none_typed kept)
-        (ap (λ h. definition.all_open locals result rest (keeping_or (after locals result (switch r ts) (keeping_or h))) w ys) first.is
-        ∙ ap (λ h. definition.all_open locals result rest (keeping_or h) w ys) second.is
-        ∙ all_alike b c rest second.now w ys two.1 there.1 second.goes
+        (ap (λ h. definition.all_open locals result rest (keeping_or (after locals result (switch r ts) (keeping_or h))) w ys) near.is
+        ∙ ap (λ h. definition.all_open locals result rest (keeping_or h) w ys) far.is
+        ∙ all_alike b c rest far.now w ys two.1 there.1 far.goes
         ∙ ap (λ o. walk.all_open rest o w ys) (there.0 ∙ ap (behind (switch r ts)) at.0)))
-        (goes_on (switch q ss) (more (switch r ts) rest) g first.now w xs first.is at.0
-        (λ ys. all_alike b c (more (switch r ts) rest) first.now w ys one.1 at.1 first.goes) (label_alike b c (more (switch r ts) rest) first.now w one.1 at.1 first.goes)
-        (opens_alike b c (switch q ss) g w xs one.0 e (ap is_some first.is)))
+        (goes_on (switch q ss) (more (switch r ts) rest) g near.now w xs near.is at.0
+        (λ ys. all_alike b c (more (switch r ts) rest) near.now w ys one.1 at.1 near.goes) (label_alike b c (more (switch r ts) rest) near.now w one.1 at.1 near.goes)
+        (opens_alike b c (switch q ss) g w xs one.0 e (ap is_some near.is)))
     all_alike b c (more s ss) g w xs v e k =
         let two = both (is_label locals s || fits locals b c s) (loose b c ss) v in
-        let next = split s ss g k in
+        let next = behind_first s ss g k in
         let at = at_keeping s g next.now b c two.0 e next.is in
         let ready : List Opened = prepared s ss xs in
         step_goes s ss g w xs refl
@@ -319,7 +319,7 @@ module _ (locals : List SourceType) (result : SourceType) where
     label_alike b c (more default_label ss) g w v e k = at_label (w.labels None) ss w (λ ys. all_alike b c ss nothing_set w ys v none_typed k)
     label_alike b c (more s ss) g w v e k =
         let two = both (is_label locals s || fits locals b c s) (loose b c ss) v in
-        let next = split s ss g k in
+        let next = behind_first s ss g k in
         let at = at_keeping s g next.now b c two.0 e next.is in
         label_alike b c ss next.now w two.1 at.1 next.goes
 

@@ -82,6 +82,12 @@ abbrev pub is_set : Register → Head → Bool
 is_set r (head.Sets q b) = q == r
 is_set r h = false
 
+-- whether it sets this register, or ends a local by it
+abbrev pub is_end : Register → Head → Bool
+is_end r (head.Sets q b) = q == r
+is_end r (head.Ends q i) = q == r
+is_end r h = false
+
 -- the local that it ends by this register
 abbrev pub ends : Register → Head → Option ℕ
 ends r (head.Ends q i) = if q == r then Some i else None

@@ -1,6 +1,6 @@
 //! What happens to each local of a list.
 
-ghost use Rattle.std.specs.Prelude.{◌≡◌, map};
+ghost use Rattle.std.specs.Prelude.{◌≡◌, ◌<◌, length, map, slice_index_or, slice_set};
 ghost use Rattle.cf_lowerable_open.specs.Lists.{changed_by};
 
 use crate::opened::Opened;
@@ -36,12 +36,28 @@ fn changed(change: &Change, x: Opened) -> Opened
     }
 }
 
+/// What is told of the local at an index.
+fn at(all: &[Opened], index: usize) -> Opened
+    requires { index < length all.now }
+    ensures { result ≡ slice_index_or all.now index result }
+{
+    all[index]
+}
+
+/// Something else is told of the local at an index.
+fn put(all: &mut Vec<Opened>, index: usize, x: Opened)
+    requires { index < length all.old.items }
+    ensures { all.new.items ≡ slice_set all.old.items index x }
+{
+    all[index] = x;
+}
+
 /// Changes all locals of a list.
 pub fn change_all(all: &mut Vec<Opened>, change: Change)
     ensures { all.new.items ≡ map (changed_by change) all.old.items }
 {
     for index in 0..all.len() {
-        let x = all[index];
-        all[index] = changed(&change, x);
+        let x = at(all.as_slice(), index);
+        put(all, index, changed(&change, x));
     }
 }

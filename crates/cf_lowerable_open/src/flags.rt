@@ -12,18 +12,14 @@ use crate::scene::Scene;
 use cf_base::Memory;
 use cf_plain::Plain;
 
-/// Whether a statement sets this register.
-fn is_set(register: u32, head: Head) -> bool
-    ensures { result ≡ spec.is_set register head }
+/// Whether a statement sets this register, or ends a local by it.
+fn is_end(register: u32, head: Head) -> bool
+    ensures { result ≡ spec.is_end register head }
 {
     match head {
         Head::Sets(other, _) => other == register,
-        Head::Case(_)
-        | Head::Default
-        | Head::Leaves
-        | Head::Declares(_)
-        | Head::Ends(_, _)
-        | Head::Other => false,
+        Head::Ends(other, _) => other == register,
+        Head::Case(_) | Head::Default | Head::Leaves | Head::Declares(_) | Head::Other => false,
     }
 }
 
@@ -54,11 +50,8 @@ fn ended_by(x: &Scene<'_>, register: u32, rest: &[Plain]) -> Option<u32>
 {
     for s in rest {
         let head = read_head(x, s);
-        if is_set(register, head) {
-            return None;
-        }
-        if let Some(local) = ended(register, head) {
-            return Some(local);
+        if is_end(register, head) {
+            return ended(register, head);
         }
     }
     None

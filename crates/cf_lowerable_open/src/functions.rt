@@ -33,7 +33,9 @@ fn parameters_open(x: &Scene<'_>, params: &[TyId]) -> Result<Vec<Opened>, Memory
 {
     let mut made = Vec::new(x.alloc);
     for index in 0..params.len() {
-        made.push(Opened::new(number(index)?, None, true))?;
+        let local = number(index)?;
+        let parameter = Opened::new(local, None, true);
+        made.push(parameter)?;
     }
     Ok(made)
 }

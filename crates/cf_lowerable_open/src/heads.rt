@@ -71,7 +71,7 @@ fn finished_by(x: &Scene<'_>, a: &Action) -> Option<u32>
 }
 
 /// The local that statements end, if they do no more.
-#[tactic(auto, using(crate::proofs::Heads::alone_one, crate::proofs::Heads::alone_other))]
+#[tactic(auto, using(crate::proofs::Alone::alone_one, crate::proofs::Alone::alone_other))]
 fn ended_alone(x: &Scene<'_>, all: &[Plain]) -> Option<u32>
     ensures { result ≡ spec.ended_alone (statements_in x.now all.now) }
 {

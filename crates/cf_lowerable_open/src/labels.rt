@@ -95,6 +95,7 @@ pub fn is_before(x: &Scene<'_>, s: &Plain, rest: &[Plain]) -> bool
 }
 
 /// What is open where a switch is left, behind declarations alone.
+#[tactic(auto, using(crate::proofs::HeadLaws::declared_step))]
 fn declared(
     x: &Scene<'_>,
     all: &[Plain],
@@ -121,6 +122,7 @@ fn declared(
 }
 
 /// What the switch before declares at this label, where these are open.
+#[tactic(auto, using(crate::proofs::HeadLaws::declared_at_step))]
 fn declared_at(
     x: &Scene<'_>,
     before: &[Plain],
@@ -129,12 +131,17 @@ fn declared_at(
 ) -> Result<Option<Vec<Opened>>, Memory>
     ensures { IfOk result (λ found. items_of found ≡ definition.declared_at (statements_in x.now before.now) here.now label) }
 {
-    for (index, s) in before.iter().enumerate() {
-        if is_label(label, read_head(x, s)) {
-            return declared(x, &before[index + 1..], Vec::from_slice(x.alloc, here)?);
+    match before.split_first() {
+        None => Ok(None),
+        Some((s, rest)) => {
+            if is_label(label, read_head(x, s)) {
+                let made = Vec::from_slice(x.alloc, here)?;
+                declared(x, rest, made)
+            } else {
+                declared_at(x, rest, here, label)
+            }
         }
     }
-    Ok(None)
 }
 
 /// What is open at this label of the switch around, if it may stand there.
@@ -147,7 +154,10 @@ pub fn at_label(
 {
     match ways.labels {
         Labels::Nowhere => Ok(None),
-        Labels::Everywhere(here) => Ok(Some(Vec::from_slice(x.alloc, here)?)),
+        Labels::Everywhere(here) => {
+            let made = Vec::from_slice(x.alloc, here)?;
+            Ok(Some(made))
+        }
         Labels::Passed(before, here) => declared_at(x, before.as_slice(), here, label),
     }
 }

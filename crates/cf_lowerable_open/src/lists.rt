@@ -1,8 +1,9 @@
 //! Lists of locals, the last that was declared first.
 
-ghost use Rattle.std.specs.Prelude.{◌≡◌, ◌==◌, ◌&&◌, ◌∷◌, OnOk};
+ghost use Rattle.std.specs.Prelude.{◌≡◌, ◌==◌, ◌&&◌, ◌∷◌, length, OnOk};
 ghost use Rattle.std.specs.List.{list_all, list_any};
 ghost use Rattle.cf_lower_kept.specs.Opened as spec;
+ghost use Rattle.cf_lowerable_open.specs.Lists as walk;
 
 use crate::changes::{Change, change_all};
 use crate::opened::Opened;
@@ -114,15 +115,42 @@ pub fn declare(local: u32, register: Option<u32>, all: &mut Vec<Opened>) -> Resu
     }
 }
 
+/// Whether two lists are equally long.
+fn same_length(left: &[Opened], right: &[Opened]) -> bool
+    ensures { result ≡ (length left.now == length right.now) }
+{
+    left.len() == right.len()
+}
+
+/// Whether the same local stands at an index of both.
+fn same_at(left: &[Opened], right: &[Opened], index: usize) -> bool
+    ensures { result ≡ walk.same_at left.now right.now index }
+{
+    match (left.get(index), right.get(index)) {
+        (Some(x), Some(y)) => x.is_same(y),
+        _ => false,
+    }
+}
+
+/// Whether the same is told of the same local at an index of both.
+fn open_at(left: &[Opened], right: &[Opened], index: usize) -> bool
+    ensures { result ≡ walk.open_at left.now right.now index }
+{
+    match (left.get(index), right.get(index)) {
+        (Some(x), Some(y)) => x.is_as_open(y),
+        _ => false,
+    }
+}
+
 /// Whether the same locals are listed.
 pub fn same_locals(left: &[Opened], right: &[Opened]) -> bool
     ensures { result ≡ spec.same_locals left.now right.now }
 {
-    if left.len() != right.len() {
+    if !same_length(left, right) {
         return false;
     }
-    for (index, x) in left.iter().enumerate() {
-        if !x.is_same(&right[index]) {
+    for index in 0..left.len() {
+        if !same_at(left, right, index) {
             return false;
         }
     }
@@ -133,11 +161,11 @@ pub fn same_locals(left: &[Opened], right: &[Opened]) -> bool
 pub fn same_open(left: &[Opened], right: &[Opened]) -> bool
     ensures { result ≡ spec.same_open left.now right.now }
 {
-    if left.len() != right.len() {
+    if !same_length(left, right) {
         return false;
     }
-    for (index, x) in left.iter().enumerate() {
-        if !x.is_as_open(&right[index]) {
+    for index in 0..left.len() {
+        if !open_at(left, right, index) {
             return false;
         }
     }

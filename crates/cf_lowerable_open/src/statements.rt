@@ -232,7 +232,7 @@ fn opens(
             let turns = inner(x, body, &in_turn(settled.as_slice()), settled.as_slice())?;
             let steps = inner(x, next, &in_step(settled.as_slice()), settled.as_slice())?;
             g.clear_all();
-            Ok(only_if(turns && steps, Where::Falls(settled)))
+            Ok(only_if(turns, only_if(steps, Where::Falls(settled))))
         }
         Plain::Switch { body, .. } => {
             let settled = settle(here);

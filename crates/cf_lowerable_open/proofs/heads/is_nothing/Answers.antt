@@ -1,5 +1,5 @@
 use Rattle.std.proofs.Common.{◌∙◌}
-use Rattle.cf_lowerable_open.proofs.Heads.{none_there}
+use Rattle.cf_lowerable_open.proofs.Alone.{none_there}
 use Rattle.cf_lowerable_open.proofs.heads.is_nothing.Goals as goal
 
 pub returns : goal.returns
