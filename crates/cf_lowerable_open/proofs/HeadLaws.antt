@@ -2,10 +2,10 @@
 use Rattle.std.proofs.Common.{◌≡◌, ℕ, Bool, true, false, ◌&&◌, ◌||◌, ◌==◌, if◌then◌else◌, List, ◌∷◌, refl, sym, ap, ◌∙◌}
 use Rattle.std.specs.Prelude.{ℤ, Option, Some, None, int_le}
 use Rattle.cf_plain.specs.Plain.{Register, number, declare, finish, Plain, Plains, act, set, branch, loop, switch, case_label, default_label, leave, continue, give, parts, nothing, more}
-use Rattle.cf_lower_kept.specs.Opened.{Opened, Where, falls, away, wrong, Ways, ended_by, or_behind, prepared, awaited, is_the_label, declared, declared_at, stands_before}
+use Rattle.cf_lower_kept.specs.Opened.{Opened, Where, falls, away, wrong, Ways, ended_by, or_behind, prepared, awaited, is_the_label, is_listed, open_one, declared, declared_at, stands_before}
 use Rattle.cf_lowerable_open.specs.declared.heads.Head.{Head}
 use Rattle.cf_lowerable_open.specs.declared.heads.Head.TheVariants as head
-use Rattle.cf_lowerable_open.specs.Heads.{head_of, head_of_branch, ended_alone, is_nothing, is_set, is_end, ends, is_label, has_label, may_stand, declared_on, prepared_by, label_of}
+use Rattle.cf_lowerable_open.specs.Heads.{head_of, head_of_branch, ended_alone, is_nothing, is_set, is_end, ends, is_label, has_label, may_stand, heads_of, declared_by, labelled_by, prepared_by, label_of}
 use Rattle.cf_lowerable_open.specs.Objects.{Objects, no_objects, behind}
 use Rattle.cf_lowerable_open.specs.Walk.{all_open, from_label, onward, landed, landed_at}
 
@@ -69,15 +69,23 @@ stands_step (act a) ss ts = refl
 stands_step (branch q vs bs) ss ts = sym (branch_head (λ h. may_stand h ts && stands_before ss ts) (λ q i. refl) q (ended_alone vs) (is_nothing bs))
 stands_step s ss ts = refl
 
-pub declared_step : (s : Plain) (ss : Plains) (xs : List Opened) → declared (more s ss) xs ≡ declared_on (head_of s) ss xs
-declared_step (act (declare i t)) ss xs = refl
-declared_step (act a) ss xs = refl
-declared_step (branch q vs bs) ss xs = sym (branch_head (λ h. declared_on h ss xs) (λ q i. refl) q (ended_alone vs) (is_nothing bs))
-declared_step s ss xs = refl
+pub declared_heads : (ss : Plains) (xs : List Opened) → declared_by (heads_of ss) xs ≡ declared ss xs
+declared_heads nothing xs = refl
+declared_heads (more (act (declare i t)) ss) xs = ap (λ o. if is_listed i xs then None else o) (declared_heads ss (open_one i None false ∷ xs))
+declared_heads (more (act a) ss) xs = refl
+declared_heads (more (branch q vs bs) ss) xs = branch_head (λ h. declared_by (h ∷ heads_of ss) xs) (λ q i. refl) q (ended_alone vs) (is_nothing bs)
+declared_heads (more s ss) xs = refl
 
-pub declared_at_step : (s : Plain) (ss : Plains) (xs : List Opened) (l : Option ℤ)
-    → declared_at (more s ss) xs l ≡ (if is_label l (head_of s) then declared ss xs else declared_at ss xs l)
-declared_at_step s ss xs l = ap (λ b. if b then declared ss xs else declared_at ss xs l) (label_step l s)
+labels_heads : (ss : Plains) (xs : List Opened) (l : Option ℤ) → labelled_by (heads_of ss) xs l ≡ declared_at ss xs l
+labels_heads nothing xs l = refl
+labels_heads (more s ss) xs l =
+    ap (λ b. if b then declared_by (heads_of ss) xs else labelled_by (heads_of ss) xs l) (sym (label_step l s))
+    ∙ ap (λ o. if is_the_label l s then o else labelled_by (heads_of ss) xs l) (declared_heads ss xs)
+    ∙ ap (λ o. if is_the_label l s then declared ss xs else o) (labels_heads ss xs l)
+
+-- at all labels
+pub all_labels : (ss : Plains) (xs : List Opened) → labelled_by (heads_of ss) xs ≡ declared_at ss xs
+all_labels ss xs = λ j l. labels_heads ss xs l j
 
 -- ---- behind a statement to which control does not come
 

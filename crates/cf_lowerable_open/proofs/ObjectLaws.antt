@@ -164,7 +164,7 @@ module _ (locals : List SourceType) where
     action_given g (plain.number z) e = (refl, tt)
     action_given g (plain.text j b) e = (refl, tt)
     action_given g (plain.local i) e = none_given _ (named_none (slice_get locals i))
-    action_given g (plain.static_object name t) e = none_given _ (named_none (Some t))
+    action_given g (plain.static_object name t) e = none_given (named (Some t)) (named_none (Some t))
     action_given g (plain.function name t) e = (refl, tt)
     action_given g (plain.read r) e = none_given _ (read_none (g r))
     action_given g (plain.dereference r) e = none_given _ (pointed_none (g r))
@@ -185,7 +185,7 @@ module _ (locals : List SourceType) where
     action_given g (plain.zeros r) e = none_given _ (filled_none (g r))
     action_given g (plain.bytes r b) e = none_given _ (filled_none (g r))
     action_given g (plain.finish t i) e = (refl, tt)
-    action_given g (plain.call name t None is None) e = none_given _ (value_none (result_type t))
+    action_given g (plain.call name t None is None) e = none_given (Some (value_of (result_type t))) (value_none (result_type t))
     action_given g (plain.pointer_call None r t is None) e = none_given _ (pointed_call_none t (g r))
     action_given g a e = tt
 

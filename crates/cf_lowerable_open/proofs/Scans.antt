@@ -1,12 +1,12 @@
 -- One statement after another is looked at.
-use Rattle.std.proofs.Common.{◌≡◌, ℕ, ◌+◌, ◌<◌, ◌≤◌, Bool, true, false, ◌&&◌, ◌||◌, if◌then◌else◌, List, length, drop, get_or, refl, sym, ap, ◌∙◌}
+use Rattle.std.proofs.Common.{◌≡◌, ℕ, ◌+◌, ◌<◌, ◌≤◌, Bool, true, false, ◌&&◌, ◌||◌, if◌then◌else◌, List, [], ◌∷◌, ◌++◌, length, drop, get_or, refl, sym, ap, ◌∙◌, append_assoc, append-nil}
 use Rattle.std.specs.Prelude.{ℤ, Option, Some, None}
 use Rattle.cf_plain.specs.declared.statement.Plain.{Plain as CodePlain}
 use Rattle.cf_plain.specs.Plain.{Plain, Plains, nothing, more}
 use Rattle.cf_lower_kept.specs.Opened.{ended_by, stands_before}
 use Rattle.cf_lowerable_open.specs.declared.heads.Head.{Head}
 use Rattle.cf_lowerable_open.specs.declared.scene.Scene.{Scene}
-use Rattle.cf_lowerable_open.specs.Heads.{head_of, is_end, ends, is_label, has_label, may_stand}
+use Rattle.cf_lowerable_open.specs.Heads.{head_of, is_end, ends, is_label, has_label, heads_of, may_stand}
 use Rattle.cf_lowerable_open.specs.Views.{statement_in, statements_in}
 use Rattle.cf_lowerable_open.proofs.HeadLaws.{end_step, has_step, stands_step}
 use Rattle.cf_lowerable_open.proofs.Steps.{next_first, none_left}
@@ -79,7 +79,17 @@ module _ (x : Scene) (all : List CodePlain) (i : ℕ) where
         sym (next_first x (ended_by r) all i s within is ∙ end_step r (statement_in x s) Left
         ∙ if_false _ _ _ (of_head (is_end r) h (head_of (statement_in x s)) b false headed test so)) ∙ inv
 
+  module _ (s : CodePlain) (within : i < length all) (is : s ≡ get_or all i s) (h : Head) (whole : List Head) (headed : h ≡ head_of (statement_in x s)) where
+    pub head_more : (made longer : List Head) → longer ≡ made ++ h ∷ [] → made ++ heads_of (statements_in x (drop i all)) ≡ whole
+        → longer ++ heads_of (statements_in x (drop (i + 1) all)) ≡ whole
+    head_more made longer grown inv =
+        ap (λ l. l ++ heads_of Left) grown ∙ append_assoc made (h ∷ []) (heads_of Left) ∙ ap (λ k. made ++ k ∷ heads_of Left) headed
+        ∙ sym (next_first x (λ ss. made ++ heads_of ss) all i s within is) ∙ inv
+
   module _ (past : length all ≤ i) where
+    pub heads_all : (whole made : List Head) → made ++ heads_of (statements_in x (drop i all)) ≡ whole → made ≡ whole
+    heads_all whole made inv = sym (append-nil made) ∙ sym (none_left x (λ ss. made ++ heads_of ss) all i past) ∙ inv
+
     pub label_none : (l : Option ℤ) (whole : Bool) → has_label l (statements_in x (drop i all)) ≡ whole → false ≡ whole
     label_none l whole inv = sym (none_left x (has_label l) all i past ∙ no_label l) ∙ inv
 

@@ -1,7 +1,7 @@
 -- What a statement is, as far as those before it ask.
 use Rattle.std.specs.Prelude.{ℕ, ℤ, Bool, true, false, ◌&&◌, ◌==◌, if◌then◌else◌, int_le, List, [], ◌∷◌, Option, Some, None}
 use Rattle.cf_plain.specs.Plain.{Register, Action, number, declare, finish, Plain, Plains, act, set, branch, switch, case_label, default_label, leave, nothing, more}
-use Rattle.cf_lower_kept.specs.Opened.{Opened, is_listed, open_one, declared, awaited, ended_by, stands_before}
+use Rattle.cf_lower_kept.specs.Opened.{Opened, is_listed, open_one, awaited, ended_by, stands_before}
 use Rattle.cf_plain.specs.Running.{has_case}
 use Rattle.cf_plain.specs.Valid.{has_default}
 use Rattle.cf_lowerable_open.specs.declared.heads.Head.{Head}
@@ -95,10 +95,21 @@ ends r h = None
 
 -- ---- what the statements behind are asked for, by heads
 
-abbrev pub declared_on : Head → Plains → List Opened → Option (List Opened)
-declared_on (head.Declares i) ss xs = if is_listed i xs then None else declared ss (open_one i None false ∷ xs)
-declared_on head.Leaves ss xs = Some xs
-declared_on h ss xs = None
+abbrev pub heads_of : Plains → List Head
+heads_of nothing = []
+heads_of (more s ss) = head_of s ∷ heads_of ss
+
+-- what is open where a switch is left, behind declarations alone
+abbrev pub declared_by : List Head → List Opened → Option (List Opened)
+declared_by [] xs = None
+declared_by (head.Declares i ∷ hs) xs = if is_listed i xs then None else declared_by hs (open_one i None false ∷ xs)
+declared_by (head.Leaves ∷ hs) xs = Some xs
+declared_by (h ∷ hs) xs = None
+
+-- at a label of it
+abbrev pub labelled_by : List Head → List Opened → Option ℤ → Option (List Opened)
+labelled_by [] xs l = None
+labelled_by (h ∷ hs) xs l = if is_label l h then declared_by hs xs else labelled_by hs xs l
 
 abbrev pub prepared_by : Head → Plains → List Opened → List Opened
 prepared_by (head.Sets r true) ss xs = awaited r (ended_by r ss) xs

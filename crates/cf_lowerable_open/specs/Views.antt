@@ -1,7 +1,6 @@
 -- What the code's values are.
 use Rattle.std.specs.Prelude.{ℕ, List, map, Option, Some, None, ℤ, slice_get}
 use Rattle.std.specs.Global.{Vec}
-use Rattle.std.specs.Option.{option_copied}
 use Rattle.cf_core.specs.FromTypes.{Tables}
 use Rattle.cf_core.specs.FromClasses.{signature_of}
 use Rattle.cf_plain.specs.declared.action.Action.{Action as CodeAction}
@@ -9,7 +8,8 @@ use Rattle.cf_plain.specs.declared.statement.Plain.{Plain as CodePlain}
 use Rattle.cf_plain.specs.declared.statement.PlainPart.{PlainPart as CodePart, fold-PlainPart}
 use Rattle.cf_plain.specs.Plain.{Register, Action, Plain, Plains}
 use Rattle.cf_plain.specs.View.{Built, action_of, plain_of, plains_of, plain_step, part_step}
-use Rattle.cf_lower_kept.specs.Opened.{Opened, Where, falls, away, wrong, Ways, no_label, declared_at}
+use Rattle.cf_lower_kept.specs.Opened.{Opened, Where, falls, away, wrong, Ways, no_label}
+use Rattle.cf_lowerable_open.specs.Heads.{labelled_by}
 use Rattle.cf_lowerable_open.specs.Objects.{Objects}
 use Rattle.cf_lowerable_open.specs.declared.ends.Where.{Where as CodeWhere}
 use Rattle.cf_lowerable_open.specs.declared.ends.Where.TheVariants as place
@@ -61,13 +61,13 @@ built_in x = fold-PlainPart Plain Built (plain_step (tables_in x) (signature_of 
 
 -- ---- what is around statements
 
-abbrev pub labels_in : Scene → Labels → Option ℤ → Option (List Opened)
-labels_in x labels.Nowhere = no_label
-labels_in x (labels.Everywhere ys) = λ l. Some ys.now
-labels_in x (labels.Passed before ys) = declared_at (statements_in x before.now) ys.now
+abbrev pub labels_of : Labels → Option ℤ → Option (List Opened)
+labels_of labels.Nowhere = no_label
+labels_of (labels.Everywhere ys) = λ l. Some ys.items
+labels_of (labels.Passed hs ys) = labelled_by hs.items ys.items
 
-abbrev pub ways_in : Scene → CodeWays → Ways
-ways_in x w = record { breaks = option_copied w.breaks; continues = option_copied w.continues; labels = labels_in x w.labels }
+abbrev pub ways_of : CodeWays → Ways
+ways_of w = record { breaks = items_of w.breaks; continues = items_of w.continues; labels = labels_of w.labels }
 
 -- a switch, by its register and statements
 abbrev pub switched_in : Scene → Switched → Register × Plains

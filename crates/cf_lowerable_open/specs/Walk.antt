@@ -4,6 +4,8 @@ use Rattle.std.specs.List.{list_all}
 use Rattle.cf_core.specs.Types.{parameters}
 use Rattle.cf_plain.specs.Plain.{Register, Action, number, declare, first, zeros, bytes, finish, call, pointer_call, Plain, Plains, act, set, branch, loop, switch, case_label, default_label, leave, continue, give, parts, nothing, more, PlainFunction, PlainFile}
 use Rattle.cf_lower_kept.specs.Opened.{Opened, settled, is_open, begun_well, has_its_value, differ, numbered, declared_among, valued_in, closed, closed_all, where_set, where_unset, prepared, Where, falls, away, wrong, joined, comes_to, is_at, only_if, set_in, Ways, no_label, declared_at, stands_before, parameters_open}
+use Rattle.cf_lowerable_open.specs.declared.heads.Head.{Head}
+use Rattle.cf_lowerable_open.specs.Heads.{labelled_by}
 use Rattle.cf_lowerable_open.specs.Objects.{Objects, no_objects, behind}
 
 -- ---- actions
@@ -42,6 +44,10 @@ in_switch w ys = record { breaks = Some ys; continues = w.continues; labels = λ
 
 abbrev pub in_passed : Ways → Plains → List Opened → Ways
 in_passed w before ys = record { breaks = Some ys; continues = w.continues; labels = declared_at before ys }
+
+-- the same by what the statements of the switch before are
+abbrev pub in_headed : Ways → List Head → List Opened → Ways
+in_headed w before ys = record { breaks = Some ys; continues = w.continues; labels = labelled_by before ys }
 
 -- ---- statements
 

@@ -3,8 +3,7 @@
 ghost use Rattle.std.specs.Prelude.{◌≡◌, IfOk};
 ghost use Rattle.cf_lower_kept.specs.Opened as spec;
 ghost use Rattle.cf_lower_kept.specs.Opened.{falls};
-ghost use Rattle.std.specs.Option.{option_copied};
-ghost use Rattle.cf_lowerable_open.specs.Views.{where_of};
+ghost use Rattle.cf_lowerable_open.specs.Views.{items_of, where_of};
 
 use crate::lists::{same_locals, same_open};
 use crate::opened::Opened;
@@ -82,11 +81,11 @@ pub fn only_if(test: bool, place: Where) -> Where
 }
 
 /// Whether just these are open at a place, if there is one.
-pub fn is_at(place: Option<&[Opened]>, all: &[Opened]) -> bool
-    ensures { result ≡ spec.is_at (option_copied place) all.now }
+pub fn is_at(place: &Option<Vec<Opened>>, all: &[Opened]) -> bool
+    ensures { result ≡ spec.is_at (items_of place.now) all.now }
 {
     match place {
         None => false,
-        Some(others) => same_open(others, all),
+        Some(others) => same_open(others.as_slice(), all),
     }
 }

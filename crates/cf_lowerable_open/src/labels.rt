@@ -4,7 +4,7 @@ ghost use Rattle.std.specs.Prelude.{◌≡◌, IfOk};
 ghost use Rattle.std.specs.Option.{option_map};
 ghost use Rattle.cf_lower_kept.specs.Opened as definition;
 ghost use Rattle.cf_lowerable_open.specs.Heads as spec;
-ghost use Rattle.cf_lowerable_open.specs.Views.{items_of, statements_in, statement_in, switched_in, ways_in, where_of};
+ghost use Rattle.cf_lowerable_open.specs.Views.{items_of, labels_of, statement_in, statements_in, switched_in, ways_of, where_of};
 ghost use Rattle.cf_lowerable_open.specs.Walk as walk;
 
 use crate::ends::Where;
@@ -15,6 +15,7 @@ use crate::scene::Scene;
 use crate::ways::{Labels, Ways};
 use cf_base::Memory;
 use cf_plain::Plain;
+use std::alloc::Global;
 
 /// Whether a statement is this label, a case or the default.
 fn is_label(label: Option<i64>, head: Head) -> bool
@@ -94,51 +95,61 @@ pub fn is_before(x: &Scene<'_>, s: &Plain, rest: &[Plain]) -> bool
     passes(x, switch_in(x, s), first_switch(x, rest))
 }
 
+/// What the statements of a switch are.
+pub fn all_heads(x: &Scene<'_>, all: &[Plain]) -> Result<Vec<Head>, Memory>
+    ensures { IfOk result (λ heads. heads.items ≡ spec.heads_of (statements_in x.now all.now)) }
+{
+    let mut made = Vec::new(x.alloc);
+    for s in all {
+        let head = read_head(x, s);
+        made.push(head)?;
+    }
+    Ok(made)
+}
+
 /// What is open where a switch is left, behind declarations alone.
-#[tactic(auto, using(crate::proofs::HeadLaws::declared_step))]
-fn declared(
-    x: &Scene<'_>,
-    all: &[Plain],
-    here: Vec<Opened>,
-) -> Result<Option<Vec<Opened>>, Memory>
-    ensures { IfOk result (λ found. items_of found ≡ definition.declared (statements_in x.now all.now) here.items) }
+fn declared(all: &[Head], here: Vec<Opened>) -> Result<Option<Vec<Opened>>, Memory>
+    ensures { IfOk result (λ found. items_of found ≡ spec.declared_by all.now here.items) }
 {
     let mut made = here;
     match all.split_first() {
         None => Ok(None),
-        Some((s, rest)) => match read_head(x, s) {
+        Some((head, rest)) => match *head {
             Head::Declares(local) => {
                 if is_listed(local, made.as_slice()) {
                     Ok(None)
                 } else {
                     put(Opened::new(local, None, false), &mut made)?;
-                    declared(x, rest, made)
+                    declared(rest, made)
                 }
             }
             Head::Leaves => Ok(Some(made)),
-            _ => Ok(None),
+            Head::Case(_)
+            | Head::Default
+            | Head::Sets(_, _)
+            | Head::Ends(_, _)
+            | Head::Other => Ok(None),
         },
     }
 }
 
 /// What the switch before declares at this label, where these are open.
-#[tactic(auto, using(crate::proofs::HeadLaws::declared_at_step))]
 fn declared_at(
-    x: &Scene<'_>,
-    before: &[Plain],
+    alloc: Global,
+    before: &[Head],
     here: &[Opened],
     label: Option<i64>,
 ) -> Result<Option<Vec<Opened>>, Memory>
-    ensures { IfOk result (λ found. items_of found ≡ definition.declared_at (statements_in x.now before.now) here.now label) }
+    ensures { IfOk result (λ found. items_of found ≡ spec.labelled_by before.now here.now label) }
 {
     match before.split_first() {
         None => Ok(None),
-        Some((s, rest)) => {
-            if is_label(label, read_head(x, s)) {
-                let made = Vec::from_slice(x.alloc, here)?;
-                declared(x, rest, made)
+        Some((head, rest)) => {
+            if is_label(label, *head) {
+                let made = Vec::from_slice(alloc, here)?;
+                declared(rest, made)
             } else {
-                declared_at(x, rest, here, label)
+                declared_at(alloc, rest, here, label)
             }
         }
     }
@@ -146,19 +157,21 @@ fn declared_at(
 
 /// What is open at this label of the switch around, if it may stand there.
 pub fn at_label(
-    x: &Scene<'_>,
-    ways: &Ways<'_>,
+    alloc: Global,
+    labels: &Labels,
     label: Option<i64>,
 ) -> Result<Option<Vec<Opened>>, Memory>
-    ensures { IfOk result (λ found. items_of found ≡ (ways_in x.now ways.now).labels label) }
+    ensures { IfOk result (λ found. items_of found ≡ labels_of labels.now label) }
 {
-    match ways.labels {
+    match labels {
         Labels::Nowhere => Ok(None),
         Labels::Everywhere(here) => {
-            let made = Vec::from_slice(x.alloc, here)?;
+            let made = Vec::from_slice(alloc, here.as_slice())?;
             Ok(Some(made))
         }
-        Labels::Passed(before, here) => declared_at(x, before.as_slice(), here, label),
+        Labels::Passed(before, here) => {
+            declared_at(alloc, before.as_slice(), here.as_slice(), label)
+        }
     }
 }
 
@@ -173,12 +186,18 @@ fn landed(found: Option<Vec<Opened>>) -> Where
 }
 
 /// What is open behind a statement to which control does not come.
-pub fn land(x: &Scene<'_>, s: &Plain, ways: &Ways<'_>) -> Result<Where, Memory>
-    ensures { IfOk result (λ place. where_of place ≡ walk.landed_at (spec.label_of (spec.head_of (statement_in x.now s.now))) (ways_in x.now ways.now)) }
+pub fn land(x: &Scene<'_>, s: &Plain, ways: &Ways) -> Result<Where, Memory>
+    ensures { IfOk result (λ place. where_of place ≡ walk.landed_at (spec.label_of (spec.head_of (statement_in x.now s.now))) (ways_of ways.now)) }
 {
     match read_head(x, s) {
-        Head::Case(value) => Ok(landed(at_label(x, ways, Some(value))?)),
-        Head::Default => Ok(landed(at_label(x, ways, None)?)),
+        Head::Case(value) => {
+            let found = at_label(x.alloc, &ways.labels, Some(value))?;
+            Ok(landed(found))
+        }
+        Head::Default => {
+            let found = at_label(x.alloc, &ways.labels, None)?;
+            Ok(landed(found))
+        }
         Head::Leaves
         | Head::Declares(_)
         | Head::Sets(_, _)

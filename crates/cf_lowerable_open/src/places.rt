@@ -1,25 +1,25 @@
 //! What is open behind statements that hold no others.
 
 ghost use Rattle.std.specs.Prelude.{◌≡◌, Some, map, IfOk, OnOk};
-ghost use Rattle.std.specs.Option.{option_copied};
 ghost use Rattle.cf_lower_kept.specs.Opened as definition;
 ghost use Rattle.cf_lower_kept.specs.Opened.{away, falls, settled};
 ghost use Rattle.cf_lowerable_open.specs.Objects as objects;
-ghost use Rattle.cf_lowerable_open.specs.Views.{action_in, holding, items_of, statements_in, ways_in, where_of};
+ghost use Rattle.cf_lowerable_open.specs.Views.{action_in, holding, items_of, statements_in, ways_of, where_of};
 ghost use Rattle.cf_lowerable_open.specs.Walk as spec;
-ghost use Rattle.cf_lowerable_open.specs.declared.scene.Scene.{Scene as SceneOf};
 
 use crate::actions::{act, may_act, object_given};
 use crate::changes::{Change, change_all};
 use crate::ends::{Where, is_at};
-use crate::labels::at_label;
+use crate::heads::Head;
+use crate::labels::{all_heads, at_label};
 use crate::lists::close_by;
 use crate::objects::Objects;
 use crate::opened::Opened;
 use crate::scene::Scene;
 use crate::ways::{Labels, Ways};
-use cf_base::{Items, Memory};
+use cf_base::Memory;
 use cf_plain::{Action, Plain};
+use std::alloc::Global;
 
 /// What is open where statements run any number of times, or from any label on.
 pub fn settle(here: Vec<Opened>) -> Vec<Opened>
@@ -96,34 +96,29 @@ pub fn set(
 pub fn labelled(
     x: &Scene<'_>,
     label: Option<i64>,
-    ways: &Ways<'_>,
+    ways: &Ways,
     here: Vec<Opened>,
 ) -> Result<Where, Memory>
-    ensures { IfOk result (λ place. where_of place ≡ spec.labelled label (ways_in x.now ways.now) here.items) }
+    ensures { IfOk result (λ place. where_of place ≡ spec.labelled label (ways_of ways.now) here.items) }
 {
-    let found = at_label(x, ways, label)?;
-    Ok(come_to(found, here))
+    let found = at_label(x.alloc, &ways.labels, label)?;
+    Ok(come_to(&found, here))
 }
 
-/// Behind a label, where these are to be open, if it may stand there.
-fn come_to(found: Option<Vec<Opened>>, here: Vec<Opened>) -> Where
-    ensures { where_of result ≡ definition.only_if (definition.is_at (items_of found) here.items) (falls (map settled here.items)) }
+/// Behind a place where these are to be open, if there is one.
+fn come_to(found: &Option<Vec<Opened>>, here: Vec<Opened>) -> Where
+    ensures { where_of result ≡ definition.only_if (definition.is_at (items_of found.now) here.items) (falls (map settled here.items)) }
 {
-    match found {
-        None => Where::Wrong,
-        Some(others) => {
-            if is_at(Some(others.as_slice()), here.as_slice()) {
-                Where::Falls(settle(here))
-            } else {
-                Where::Wrong
-            }
-        }
+    if is_at(found, here.as_slice()) {
+        Where::Falls(settle(here))
+    } else {
+        Where::Wrong
     }
 }
 
 /// Where control leaves a loop or switch, or goes on with a loop, if just what is to be open there is.
-pub fn leave(way: Option<&[Opened]>, here: &[Opened]) -> Where
-    ensures { where_of result ≡ definition.only_if (definition.is_at (option_copied way) here.now) away }
+pub fn leave(way: &Option<Vec<Opened>>, here: &[Opened]) -> Where
+    ensures { where_of result ≡ definition.only_if (definition.is_at (items_of way.now) here.now) away }
 {
     if is_at(way, here) {
         Where::Away
@@ -136,56 +131,100 @@ pub fn leave(way: Option<&[Opened]>, here: &[Opened]) -> Where
 pub fn give(here: &[Opened]) -> Where
     ensures { where_of result ≡ spec.given here.now }
 {
-    match here.first() {
+    match here.split_first() {
         None => Where::Away,
         Some(_) => Where::Wrong,
     }
 }
 
-/// What is around a loop's turn.
-pub fn in_turn<'a>(here: &'a [Opened]) -> Ways<'a>
-    ensures { (x : SceneOf) → ways_in x result ≡ spec.in_turn here.now }
+/// The same list.
+fn copied(alloc: Global, here: &[Opened]) -> Result<Vec<Opened>, Memory>
+    ensures { IfOk result (λ made. made.items ≡ here.now) }
 {
-    Ways {
-        breaks: Some(here),
-        continues: Some(here),
-        labels: Labels::Nowhere,
+    Ok(Vec::from_slice(alloc, here)?)
+}
+
+/// The same list, if there is one.
+fn copied_if(alloc: Global, way: &Option<Vec<Opened>>) -> Result<Option<Vec<Opened>>, Memory>
+    ensures { IfOk result (λ made. items_of made ≡ items_of way.now) }
+{
+    match way {
+        None => Ok(None),
+        Some(here) => {
+            let made = copied(alloc, here.as_slice())?;
+            Ok(Some(made))
+        }
     }
+}
+
+/// What is around a loop's turn.
+pub fn in_turn(alloc: Global, here: &[Opened]) -> Result<Ways, Memory>
+    ensures { IfOk result (λ w. ways_of w ≡ spec.in_turn here.now) }
+{
+    let breaks = copied(alloc, here)?;
+    let continues = copied(alloc, here)?;
+    Ok(Ways {
+        breaks: Some(breaks),
+        continues: Some(continues),
+        labels: Labels::Nowhere,
+    })
 }
 
 /// What is around what is done before a further turn.
-pub fn in_step<'a>(here: &'a [Opened]) -> Ways<'a>
-    ensures { (x : SceneOf) → ways_in x result ≡ spec.in_step here.now }
+pub fn in_step(alloc: Global, here: &[Opened]) -> Result<Ways, Memory>
+    ensures { IfOk result (λ w. ways_of w ≡ spec.in_step here.now) }
 {
-    Ways {
-        breaks: Some(here),
+    let breaks = copied(alloc, here)?;
+    Ok(Ways {
+        breaks: Some(breaks),
         continues: None,
         labels: Labels::Nowhere,
-    }
+    })
 }
 
 /// What is around the statements of a switch.
-pub fn in_switch<'a>(ways: &Ways<'a>, here: &'a [Opened]) -> Ways<'a>
-    ensures { (x : SceneOf) → ways_in x result ≡ spec.in_switch (ways_in x ways.now) here.now }
+pub fn in_switch(alloc: Global, ways: &Ways, here: &[Opened]) -> Result<Ways, Memory>
+    ensures { IfOk result (λ w. ways_of w ≡ spec.in_switch (ways_of ways.now) here.now) }
 {
-    Ways {
-        breaks: Some(here),
-        continues: ways.continues,
-        labels: Labels::Everywhere(here),
-    }
+    let breaks = copied(alloc, here)?;
+    let continues = copied_if(alloc, &ways.continues)?;
+    let labels = copied(alloc, here)?;
+    Ok(Ways {
+        breaks: Some(breaks),
+        continues,
+        labels: Labels::Everywhere(labels),
+    })
+}
+
+/// What is around the statements of a switch behind one of these statements.
+fn in_headed(
+    alloc: Global,
+    ways: &Ways,
+    before: Vec<Head>,
+    here: &[Opened],
+) -> Result<Ways, Memory>
+    ensures { IfOk result (λ w. ways_of w ≡ spec.in_headed (ways_of ways.now) before.items here.now) }
+{
+    let breaks = copied(alloc, here)?;
+    let continues = copied_if(alloc, &ways.continues)?;
+    let labels = copied(alloc, here)?;
+    Ok(Ways {
+        breaks: Some(breaks),
+        continues,
+        labels: Labels::Passed(before, labels),
+    })
 }
 
 /// What is around the statements of a switch behind one that declares what its labels pass.
-pub fn in_passed<'a>(
-    ways: &Ways<'a>,
-    before: &'a Items<Plain>,
-    here: &'a [Opened],
-) -> Ways<'a>
-    ensures { (x : SceneOf) → ways_in x result ≡ spec.in_passed (ways_in x ways.now) (statements_in x before.now) here.now }
+pub fn in_passed(
+    x: &Scene<'_>,
+    ways: &Ways,
+    before: &[Plain],
+    here: &[Opened],
+) -> Result<Ways, Memory>
+    ensures { IfOk result (λ w. ways_of w ≡ spec.in_passed (ways_of ways.now) (statements_in x.now before.now) here.now) }
 {
-    Ways {
-        breaks: Some(here),
-        continues: ways.continues,
-        labels: Labels::Passed(before, here),
-    }
+    let heads = all_heads(x, before)?;
+    let made = in_headed(x.alloc, ways, heads, here)?;
+    Ok(made)
 }

@@ -1,11 +1,10 @@
 //! What is open behind statements.
 
-ghost use Rattle.std.specs.Prelude.{◌≡◌, ◌<◌, true, false, drop, length, IfOk, OnOk};
+ghost use Rattle.std.specs.Prelude.{◌≡◌, ◌+◌, ◌<◌, drop, length, IfOk, OnOk};
 ghost use Rattle.cf_lower_kept.specs.Opened as definition;
-ghost use Rattle.cf_plain.specs.Plain.{Plains, more};
 ghost use Rattle.cf_lowerable_open.specs.Heads as heads;
 ghost use Rattle.cf_lowerable_open.specs.Objects as objects;
-ghost use Rattle.cf_lowerable_open.specs.Views.{holding, statement_in, statements_in, ways_in, where_of};
+ghost use Rattle.cf_lowerable_open.specs.Views.{holding, statement_in, statements_in, ways_of, where_of};
 ghost use Rattle.cf_lowerable_open.specs.Walk as spec;
 
 use crate::behind::go_behind;
@@ -37,10 +36,10 @@ pub fn all_open(
     x: &Scene<'_>,
     all: &Items<Plain>,
     g: &mut Objects,
-    ways: &Ways<'_>,
+    ways: &Ways,
     here: Vec<Opened>,
 ) -> Result<Where, Memory>
-    ensures place { IfOk result (λ place. where_of place ≡ spec.all_open (statements_in x.now all.now) (holding g.old) (ways_in x.now ways.now) here.items) }
+    ensures place { IfOk result (λ place. where_of place ≡ spec.all_open (statements_in x.now all.now) (holding g.old) (ways_of ways.now) here.items) }
     ensures held { OnOk result (holding g.new ≡ objects.behind_all (statements_in x.now all.now) (holding g.old)) }
 {
     let mut next = Next {
@@ -53,18 +52,26 @@ pub fn all_open(
     Ok(next.place)
 }
 
+/// The statements behind one.
+fn rest_of(list: &[Plain], index: usize) -> &[Plain]
+    requires { index < length list.now }
+    ensures { result.now ≡ drop (index + 1) list.now }
+{
+    &list[index + 1..]
+}
+
 /// Goes on behind the next of some statements, or behind two switches of which the first declares what the labels of the second pass.
 #[cycle(statements)]
 fn advance(
     x: &Scene<'_>,
     all: &Items<Plain>,
     g: &mut Objects,
-    ways: &Ways<'_>,
+    ways: &Ways,
     next: Next,
 ) -> Result<Next, Memory>
     requires within { next.index < length all.now }
-    ensures place { IfOk result (λ n. spec.onward (where_of n.place) (statements_in x.now (drop n.index all.now)) (holding g.new) (ways_in x.now ways.now)
-        ≡ spec.onward (where_of next.place) (statements_in x.now (drop next.index all.now)) (holding g.old) (ways_in x.now ways.now)) }
+    ensures place { IfOk result (λ n. spec.onward (where_of n.place) (statements_in x.now (drop n.index all.now)) (holding g.new) (ways_of ways.now)
+        ≡ spec.onward (where_of next.place) (statements_in x.now (drop next.index all.now)) (holding g.old) (ways_of ways.now)) }
     ensures held { IfOk result (λ n. objects.behind_all (statements_in x.now (drop n.index all.now)) (holding g.new)
         ≡ objects.behind_all (statements_in x.now (drop next.index all.now)) (holding g.old)) }
     ensures index { IfOk result (λ n. next.index < n.index) }
@@ -72,7 +79,7 @@ fn advance(
     let list = all.as_slice();
     let Next { place, index } = next;
     let s = &list[index];
-    let rest = &list[index + 1..];
+    let rest = rest_of(list, index);
     match place {
         Where::Falls(here) => {
             if is_before(x, s, rest) {
@@ -114,11 +121,11 @@ fn one(
     s: &Plain,
     rest: &[Plain],
     g: &mut Objects,
-    ways: &Ways<'_>,
+    ways: &Ways,
     here: Vec<Opened>,
 ) -> Result<Where, Memory>
     ensures place { IfOk result (λ place. where_of place
-        ≡ spec.opens (statement_in x.now s.now) (holding g.old) (ways_in x.now ways.now) (heads.prepared_by (heads.head_of (statement_in x.now s.now)) (statements_in x.now rest.now) here.items)) }
+        ≡ spec.opens (statement_in x.now s.now) (holding g.old) (ways_of ways.now) (heads.prepared_by (heads.head_of (statement_in x.now s.now)) (statements_in x.now rest.now) here.items)) }
     ensures held { OnOk result (holding g.new ≡ objects.behind (statement_in x.now s.now) (holding g.old)) }
 {
     let mut ready = here;
@@ -134,11 +141,11 @@ fn two(
     t: &Plain,
     s: &Plain,
     g: &mut Objects,
-    ways: &Ways<'_>,
+    ways: &Ways,
     here: Vec<Opened>,
 ) -> Result<Where, Memory>
     ensures place { IfOk result (λ place. where_of place
-        ≡ spec.passed_behind (heads.as_switch (statement_in x.now s.now)) (statement_in x.now t.now) (ways_in x.now ways.now) here.items) }
+        ≡ spec.passed_behind (heads.as_switch (statement_in x.now s.now)) (statement_in x.now t.now) (ways_of ways.now) here.items) }
     ensures held { OnOk result (holding g.new ≡ objects.behind (statement_in x.now t.now) (objects.behind (statement_in x.now s.now) (holding g.old))) }
 {
     let place = match switch_in(x, s) {
@@ -156,16 +163,17 @@ fn pass(
     x: &Scene<'_>,
     t: &Plain,
     before: &Items<Plain>,
-    ways: &Ways<'_>,
+    ways: &Ways,
     here: Vec<Opened>,
 ) -> Result<Where, Memory>
-    ensures { IfOk result (λ place. where_of place ≡ spec.passed (statement_in x.now t.now) (statements_in x.now before.now) (ways_in x.now ways.now) here.items) }
+    ensures { IfOk result (λ place. where_of place ≡ spec.passed (statement_in x.now t.now) (statements_in x.now before.now) (ways_of ways.now) here.items) }
 {
     match t {
         Plain::Switch { body, .. } => {
             let settled = settle(here);
-            let inside = in_passed(ways, before, settled.as_slice());
-            let comes = inner(x, body, &inside, settled.as_slice())?;
+            let list = settled.as_slice();
+            let inside = in_passed(x, ways, before.as_slice(), list)?;
+            let comes = inner(x, body, &inside, list)?;
             Ok(only_if(comes, Where::Falls(settled)))
         }
         Plain::Act { .. } => Ok(Where::Wrong),
@@ -186,10 +194,10 @@ fn pass(
 fn inner(
     x: &Scene<'_>,
     all: &Items<Plain>,
-    ways: &Ways<'_>,
+    ways: &Ways,
     here: &[Opened],
 ) -> Result<bool, Memory>
-    ensures { IfOk result (λ comes. comes ≡ definition.comes_to here.now (spec.all_open (statements_in x.now all.now) objects.no_objects (ways_in x.now ways.now) here.now)) }
+    ensures { IfOk result (λ comes. comes ≡ definition.comes_to here.now (spec.all_open (statements_in x.now all.now) objects.no_objects (ways_of ways.now) here.now)) }
 {
     let mut g = Objects::new(x.alloc);
     let start = Vec::from_slice(x.alloc, here)?;
@@ -203,10 +211,10 @@ fn opens(
     x: &Scene<'_>,
     s: &Plain,
     g: &mut Objects,
-    ways: &Ways<'_>,
+    ways: &Ways,
     here: Vec<Opened>,
 ) -> Result<Where, Memory>
-    ensures place { IfOk result (λ place. where_of place ≡ spec.opens (statement_in x.now s.now) (holding g.old) (ways_in x.now ways.now) here.items) }
+    ensures place { IfOk result (λ place. where_of place ≡ spec.opens (statement_in x.now s.now) (holding g.old) (ways_of ways.now) here.items) }
     ensures held { OnOk result (holding g.new ≡ objects.behind (statement_in x.now s.now) (holding g.old)) }
 {
     match s {
@@ -229,15 +237,19 @@ fn opens(
         }
         Plain::Loop { body, next } => {
             let settled = settle(here);
-            let turns = inner(x, body, &in_turn(settled.as_slice()), settled.as_slice())?;
-            let steps = inner(x, next, &in_step(settled.as_slice()), settled.as_slice())?;
+            let list = settled.as_slice();
+            let turn = in_turn(x.alloc, list)?;
+            let turns = inner(x, body, &turn, list)?;
+            let step = in_step(x.alloc, list)?;
+            let steps = inner(x, next, &step, list)?;
             g.clear_all();
             Ok(only_if(turns, only_if(steps, Where::Falls(settled))))
         }
         Plain::Switch { body, .. } => {
             let settled = settle(here);
-            let inside = in_switch(ways, settled.as_slice());
-            let comes = inner(x, body, &inside, settled.as_slice())?;
+            let list = settled.as_slice();
+            let inside = in_switch(x.alloc, ways, list)?;
+            let comes = inner(x, body, &inside, list)?;
             forget(x, body, g);
             Ok(only_if(comes, Where::Falls(settled)))
         }
@@ -251,8 +263,8 @@ fn opens(
             g.clear_all();
             Ok(place)
         }
-        Plain::Break => Ok(leave(ways.breaks, here.as_slice())),
-        Plain::Continue => Ok(leave(ways.continues, here.as_slice())),
+        Plain::Break => Ok(leave(&ways.breaks, here.as_slice())),
+        Plain::Continue => Ok(leave(&ways.continues, here.as_slice())),
         Plain::Return { .. } => Ok(give(here.as_slice())),
         Plain::Parts { .. } => Ok(Where::Wrong),
     }

@@ -1,9 +1,8 @@
 use Rattle.std.proofs.Common.{refl, sym, ap, ◌∙◌}
-use Rattle.std.specs.Option.{option_copied}
 use Rattle.std.specs.Prelude.{Some, None}
 use Rattle.cf_lower_kept.specs.Opened.{settled}
 use Rattle.cf_lowerable_open.specs.Objects.{behind, placed}
-use Rattle.cf_lowerable_open.specs.Views.{holding, statement_in, statements_in, ways_in, where_of}
+use Rattle.cf_lowerable_open.specs.Views.{holding, statement_in, statements_in, ways_of, where_of}
 use Rattle.cf_lowerable_open.specs.Walk.{opens, passed}
 use Rattle.cf_lowerable_open.proofs.Advances.{ended_behind, ended_open}
 use Rattle.cf_lowerable_open.proofs.Forms.{when_act, when_set, when_if, when_loop, when_switch, when_case, when_default, when_break, when_continue, when_return, when_parts}
@@ -15,110 +14,110 @@ pub all_open-returns : goal.all_open-returns
 all_open-returns t c =
     let x = c.args.x.now in
     record {
-      place = ended_open x c.args.all.now c.loop-next.next.index (where_of c.loop-next.next.place) _ (holding c.loop-next.g) (ways_in x c.args.ways.now) c.loop-next-test.false c.loop-next.invariant.place;
+      place = ended_open x c.args.all.now c.loop-next.next.index (where_of c.loop-next.next.place) _ (holding c.loop-next.g) (ways_of c.args.ways.now) c.loop-next-test.false c.loop-next.invariant.place;
       held = ended_behind x c.args.all.now c.loop-next.next.index (holding c.loop-next.g) _ c.loop-next-test.false c.loop-next.invariant.held;
     }
 
 pub pass-returns-in-Act : goal.pass-returns-in-Act
-pass-returns-in-Act t c = when_act c.args.x.now c.args.t.now (λ p. passed p (statements_in c.args.x.now c.args.before.now) (ways_in c.args.x.now c.args.ways.now) c.args.here.items) _ _ c.in-Act.is refl
+pass-returns-in-Act t c = when_act c.args.x.now c.args.t.now (λ p. passed p (statements_in c.args.x.now c.args.before.now) (ways_of c.args.ways.now) c.args.here.items) _ _ c.in-Act.is refl
 
 pub pass-returns-in-Set : goal.pass-returns-in-Set
-pass-returns-in-Set t c = when_set c.args.x.now c.args.t.now (λ p. passed p (statements_in c.args.x.now c.args.before.now) (ways_in c.args.x.now c.args.ways.now) c.args.here.items) _ _ _ c.in-Set.is refl
+pass-returns-in-Set t c = when_set c.args.x.now c.args.t.now (λ p. passed p (statements_in c.args.x.now c.args.before.now) (ways_of c.args.ways.now) c.args.here.items) _ _ _ c.in-Set.is refl
 
 pub pass-returns-in-If : goal.pass-returns-in-If
-pass-returns-in-If t c = when_if c.args.x.now c.args.t.now (λ p. passed p (statements_in c.args.x.now c.args.before.now) (ways_in c.args.x.now c.args.ways.now) c.args.here.items) _ _ _ _ c.in-If.is refl
+pass-returns-in-If t c = when_if c.args.x.now c.args.t.now (λ p. passed p (statements_in c.args.x.now c.args.before.now) (ways_of c.args.ways.now) c.args.here.items) _ _ _ _ c.in-If.is refl
 
 pub pass-returns-in-Loop : goal.pass-returns-in-Loop
-pass-returns-in-Loop t c = when_loop c.args.x.now c.args.t.now (λ p. passed p (statements_in c.args.x.now c.args.before.now) (ways_in c.args.x.now c.args.ways.now) c.args.here.items) _ _ _ c.in-Loop.is refl
+pass-returns-in-Loop t c = when_loop c.args.x.now c.args.t.now (λ p. passed p (statements_in c.args.x.now c.args.before.now) (ways_of c.args.ways.now) c.args.here.items) _ _ _ c.in-Loop.is refl
 
 pub pass-returns-in_ok-comes-in-Switch : goal.pass-returns-in_ok-comes-in-Switch
 pass-returns-in_ok-comes-in-Switch t c =
     let x = c.args.x.now in
-    let w = ways_in x c.args.ways.now in
+    let w = ways_of c.args.ways.now in
     let before = statements_in x c.args.before.now in
     when_switch x c.args.t.now (λ p. passed p before w c.args.here.items) _ _ _ c.in-Switch.is
     (pass_open ? w c.args.here.items c.settle-settled.result.items c.settle-settled.ensures c.in-Switch.register (statements_in x c.in-Switch.body) before _ _ ? c.only_if.ensures)
 
 pub pass-returns-in-Case : goal.pass-returns-in-Case
-pass-returns-in-Case t c = when_case c.args.x.now c.args.t.now (λ p. passed p (statements_in c.args.x.now c.args.before.now) (ways_in c.args.x.now c.args.ways.now) c.args.here.items) _ _ c.in-Case.is refl
+pass-returns-in-Case t c = when_case c.args.x.now c.args.t.now (λ p. passed p (statements_in c.args.x.now c.args.before.now) (ways_of c.args.ways.now) c.args.here.items) _ _ c.in-Case.is refl
 
 pub pass-returns-in-Default : goal.pass-returns-in-Default
-pass-returns-in-Default t c = when_default c.args.x.now c.args.t.now (λ p. passed p (statements_in c.args.x.now c.args.before.now) (ways_in c.args.x.now c.args.ways.now) c.args.here.items) _ c.in-Default.is refl
+pass-returns-in-Default t c = when_default c.args.x.now c.args.t.now (λ p. passed p (statements_in c.args.x.now c.args.before.now) (ways_of c.args.ways.now) c.args.here.items) _ c.in-Default.is refl
 
 pub pass-returns-in-Break : goal.pass-returns-in-Break
-pass-returns-in-Break t c = when_break c.args.x.now c.args.t.now (λ p. passed p (statements_in c.args.x.now c.args.before.now) (ways_in c.args.x.now c.args.ways.now) c.args.here.items) _ c.in-Break.is refl
+pass-returns-in-Break t c = when_break c.args.x.now c.args.t.now (λ p. passed p (statements_in c.args.x.now c.args.before.now) (ways_of c.args.ways.now) c.args.here.items) _ c.in-Break.is refl
 
 pub pass-returns-in-Continue : goal.pass-returns-in-Continue
-pass-returns-in-Continue t c = when_continue c.args.x.now c.args.t.now (λ p. passed p (statements_in c.args.x.now c.args.before.now) (ways_in c.args.x.now c.args.ways.now) c.args.here.items) _ c.in-Continue.is refl
+pass-returns-in-Continue t c = when_continue c.args.x.now c.args.t.now (λ p. passed p (statements_in c.args.x.now c.args.before.now) (ways_of c.args.ways.now) c.args.here.items) _ c.in-Continue.is refl
 
 pub pass-returns-in-Return : goal.pass-returns-in-Return
-pass-returns-in-Return t c = when_return c.args.x.now c.args.t.now (λ p. passed p (statements_in c.args.x.now c.args.before.now) (ways_in c.args.x.now c.args.ways.now) c.args.here.items) _ _ c.in-Return.is refl
+pass-returns-in-Return t c = when_return c.args.x.now c.args.t.now (λ p. passed p (statements_in c.args.x.now c.args.before.now) (ways_of c.args.ways.now) c.args.here.items) _ _ c.in-Return.is refl
 
 pub pass-returns-in-Parts : goal.pass-returns-in-Parts
-pass-returns-in-Parts t c = when_parts c.args.x.now c.args.t.now (λ p. passed p (statements_in c.args.x.now c.args.before.now) (ways_in c.args.x.now c.args.ways.now) c.args.here.items) _ _ c.in-Parts.is refl
+pass-returns-in-Parts t c = when_parts c.args.x.now c.args.t.now (λ p. passed p (statements_in c.args.x.now c.args.before.now) (ways_of c.args.ways.now) c.args.here.items) _ _ c.in-Parts.is refl
 
 pub opens-returns-in_ok-place-in-Act : goal.opens-returns-in_ok-place-in-Act
 opens-returns-in_ok-place-in-Act t c = record {
-  place = when_act c.args.x.now c.args.s.now (λ p. opens p (holding c.args.g.now) (ways_in c.args.x.now c.args.ways.now) c.args.here.items) _ _ c.in-Act.is c.in_ok-place-in-Act.ensures;
+  place = when_act c.args.x.now c.args.s.now (λ p. opens p (holding c.args.g.now) (ways_of c.args.ways.now) c.args.here.items) _ _ c.in-Act.is c.in_ok-place-in-Act.ensures;
   held = when_act c.args.x.now c.args.s.now (λ p. behind p (holding c.args.g.now)) _ _ c.in-Act.is refl;
 }
 
 pub opens-returns-in_ok-place-in-Set : goal.opens-returns-in_ok-place-in-Set
 opens-returns-in_ok-place-in-Set t c = record {
-  place = when_set c.args.x.now c.args.s.now (λ p. opens p (holding c.args.g.now) (ways_in c.args.x.now c.args.ways.now) c.args.here.items) _ _ _ c.in-Set.is c.in_ok-place-in-Set.ensures.place;
+  place = when_set c.args.x.now c.args.s.now (λ p. opens p (holding c.args.g.now) (ways_of c.args.ways.now) c.args.here.items) _ _ _ c.in-Set.is c.in_ok-place-in-Set.ensures.place;
   held = when_set c.args.x.now c.args.s.now (λ p. behind p (holding c.args.g.now)) _ _ _ c.in-Set.is c.in_ok-place-in-Set.ensures.held;
 }
 
 pub opens-returns-in_ok-place-in-If : goal.opens-returns-in_ok-place-in-If
 opens-returns-in_ok-place-in-If t c = record {
-  place = when_if c.args.x.now c.args.s.now (λ p. opens p (holding c.args.g.now) (ways_in c.args.x.now c.args.ways.now) c.args.here.items) _ _ _ _ c.in-If.is ?;
+  place = when_if c.args.x.now c.args.s.now (λ p. opens p (holding c.args.g.now) (ways_of c.args.ways.now) c.args.here.items) _ _ _ _ c.in-If.is ?;
   held = when_if c.args.x.now c.args.s.now (λ p. behind p (holding c.args.g.now)) _ _ _ _ c.in-If.is ?;
 }
 
 pub opens-returns-in_ok-steps-in-Loop : goal.opens-returns-in_ok-steps-in-Loop
 opens-returns-in_ok-steps-in-Loop t c = record {
-  place = when_loop c.args.x.now c.args.s.now (λ p. opens p (holding c.args.g.now) (ways_in c.args.x.now c.args.ways.now) c.args.here.items) _ _ _ c.in-Loop.is ?;
+  place = when_loop c.args.x.now c.args.s.now (λ p. opens p (holding c.args.g.now) (ways_of c.args.ways.now) c.args.here.items) _ _ _ c.in-Loop.is ?;
   held = when_loop c.args.x.now c.args.s.now (λ p. behind p (holding c.args.g.now)) _ _ _ c.in-Loop.is c.clear_all-in-Loop.ensures;
 }
 
 pub opens-returns-in_ok-comes-in-Switch : goal.opens-returns-in_ok-comes-in-Switch
 opens-returns-in_ok-comes-in-Switch t c = record {
-  place = when_switch c.args.x.now c.args.s.now (λ p. opens p (holding c.args.g.now) (ways_in c.args.x.now c.args.ways.now) c.args.here.items) _ _ _ c.in-Switch.is ?;
+  place = when_switch c.args.x.now c.args.s.now (λ p. opens p (holding c.args.g.now) (ways_of c.args.ways.now) c.args.here.items) _ _ _ c.in-Switch.is ?;
   held = when_switch c.args.x.now c.args.s.now (λ p. behind p (holding c.args.g.now)) _ _ _ c.in-Switch.is c.forget.ensures;
 }
 
 pub opens-returns-in_ok-place-in-Case : goal.opens-returns-in_ok-place-in-Case
 opens-returns-in_ok-place-in-Case t c = record {
-  place = when_case c.args.x.now c.args.s.now (λ p. opens p (holding c.args.g.now) (ways_in c.args.x.now c.args.ways.now) c.args.here.items) _ _ c.in-Case.is c.in_ok-place-in-Case.ensures;
+  place = when_case c.args.x.now c.args.s.now (λ p. opens p (holding c.args.g.now) (ways_of c.args.ways.now) c.args.here.items) _ _ c.in-Case.is c.in_ok-place-in-Case.ensures;
   held = when_case c.args.x.now c.args.s.now (λ p. behind p (holding c.args.g.now)) _ _ c.in-Case.is c.clear_all-in-Case.ensures;
 }
 
 pub opens-returns-in_ok-place-in-Default : goal.opens-returns-in_ok-place-in-Default
 opens-returns-in_ok-place-in-Default t c = record {
-  place = when_default c.args.x.now c.args.s.now (λ p. opens p (holding c.args.g.now) (ways_in c.args.x.now c.args.ways.now) c.args.here.items) _ c.in-Default.is c.in_ok-place-in-Default.ensures;
+  place = when_default c.args.x.now c.args.s.now (λ p. opens p (holding c.args.g.now) (ways_of c.args.ways.now) c.args.here.items) _ c.in-Default.is c.in_ok-place-in-Default.ensures;
   held = when_default c.args.x.now c.args.s.now (λ p. behind p (holding c.args.g.now)) _ c.in-Default.is c.clear_all-in-Default.ensures;
 }
 
 pub opens-returns-in-Break : goal.opens-returns-in-Break
 opens-returns-in-Break t c = record {
-  place = when_break c.args.x.now c.args.s.now (λ p. opens p (holding c.args.g.now) (ways_in c.args.x.now c.args.ways.now) c.args.here.items) _ c.in-Break.is ?;
+  place = when_break c.args.x.now c.args.s.now (λ p. opens p (holding c.args.g.now) (ways_of c.args.ways.now) c.args.here.items) _ c.in-Break.is ?;
   held = when_break c.args.x.now c.args.s.now (λ p. behind p (holding c.args.g.now)) _ c.in-Break.is refl;
 }
 
 pub opens-returns-in-Continue : goal.opens-returns-in-Continue
 opens-returns-in-Continue t c = record {
-  place = when_continue c.args.x.now c.args.s.now (λ p. opens p (holding c.args.g.now) (ways_in c.args.x.now c.args.ways.now) c.args.here.items) _ c.in-Continue.is ?;
+  place = when_continue c.args.x.now c.args.s.now (λ p. opens p (holding c.args.g.now) (ways_of c.args.ways.now) c.args.here.items) _ c.in-Continue.is ?;
   held = when_continue c.args.x.now c.args.s.now (λ p. behind p (holding c.args.g.now)) _ c.in-Continue.is refl;
 }
 
 pub opens-returns-in-Return : goal.opens-returns-in-Return
 opens-returns-in-Return t c = record {
-  place = when_return c.args.x.now c.args.s.now (λ p. opens p (holding c.args.g.now) (ways_in c.args.x.now c.args.ways.now) c.args.here.items) _ _ c.in-Return.is ?;
+  place = when_return c.args.x.now c.args.s.now (λ p. opens p (holding c.args.g.now) (ways_of c.args.ways.now) c.args.here.items) _ _ c.in-Return.is ?;
   held = when_return c.args.x.now c.args.s.now (λ p. behind p (holding c.args.g.now)) _ _ c.in-Return.is refl;
 }
 
 pub opens-returns-in-Parts : goal.opens-returns-in-Parts
 opens-returns-in-Parts t c = record {
-  place = when_parts c.args.x.now c.args.s.now (λ p. opens p (holding c.args.g.now) (ways_in c.args.x.now c.args.ways.now) c.args.here.items) _ _ c.in-Parts.is refl;
+  place = when_parts c.args.x.now c.args.s.now (λ p. opens p (holding c.args.g.now) (ways_of c.args.ways.now) c.args.here.items) _ _ c.in-Parts.is refl;
   held = when_parts c.args.x.now c.args.s.now (λ p. behind p (holding c.args.g.now)) _ _ c.in-Parts.is refl;
 }
