@@ -1,9 +1,9 @@
 -- What is open behind statements that hold others, by what is open behind those.
-use Rattle.std.proofs.Common.{◌≡◌, ℕ, Bool, true, false, ◌&&◌, List, map, refl, sym, ap, ◌∙◌}
-use Rattle.cf_plain.specs.Plain.{Register, Plain, Plains, branch, loop, switch}
+use Rattle.std.proofs.Common.{◌≡◌, ℕ, Bool, true, false, ◌&&◌, List, [], ◌∷◌, map, refl, sym, ap, ◌∙◌}
+use Rattle.cf_plain.specs.Plain.{Register, Plain, Plains, branch, loop, switch, give}
 use Rattle.cf_lower_kept.specs.Opened.{Opened, settled, where_set, where_unset, Where, falls, wrong, joined, comes_to, only_if, Ways}
 use Rattle.cf_lowerable_open.specs.Objects.{Objects, no_objects}
-use Rattle.cf_lowerable_open.specs.Walk.{opens, all_open, in_turn, in_step, in_switch, in_passed, in_headed, passed}
+use Rattle.cf_lowerable_open.specs.Walk.{given, opens, all_open, in_turn, in_step, in_switch, in_passed, in_headed, passed}
 use Rattle.cf_lowerable_open.specs.Heads.{heads_of}
 use Rattle.cf_lowerable_open.proofs.HeadLaws.{all_labels}
 use Rattle.std.specs.Prelude.{ℤ, Option, Some}
@@ -38,11 +38,17 @@ module _ (g : Objects) (w : Ways) (xs ys : List Opened) (settling : ys ≡ map s
   switch_open r ss a v comes made =
       made ∙ ap (λ c. only_if c (falls ys)) comes ∙ ap (λ l. only_if (comes_to l (all_open ss no_objects (in_switch w l) l)) (falls l)) settling
 
+
+-- what is around a switch behind another, by what the statements of that are
+pub headed_passed : (w : Ways) (before : Plains) (ys : List Opened) → in_headed w (heads_of before) ys ≡ in_passed w before ys
+headed_passed w before ys = ap (λ (f : Option ℤ → Option (List Opened)). record { breaks = Some ys; continues = w.continues; labels = f }) (all_labels before ys)
+
+module _ (w : Ways) (xs ys : List Opened) (settling : ys ≡ map settled xs) where
   pub pass_open : (r : Register) (ss before : Plains) (a : Bool) (v : Where) → a ≡ comes_to ys (all_open ss no_objects (in_passed w before ys) ys) → v ≡ only_if a (falls ys)
       → v ≡ passed (switch r ss) before w xs
   pass_open r ss before a v comes made =
       made ∙ ap (λ c. only_if c (falls ys)) comes ∙ ap (λ l. only_if (comes_to l (all_open ss no_objects (in_passed w before l) l)) (falls l)) settling
 
--- what is around a switch behind another, by what the statements of that are
-pub headed_passed : (w : Ways) (before : Plains) (ys : List Opened) → in_headed w (heads_of before) ys ≡ in_passed w before ys
-headed_passed w before ys = ap (λ (f : Option ℤ → Option (List Opened)). record { breaks = Some ys; continues = w.continues; labels = f }) (all_labels before ys)
+pub given_open : (r : Option ℕ) (g : Objects) (w : Ways) (xs : List Opened) → given xs ≡ opens (give r) g w xs
+given_open r g w [] = refl
+given_open r g w (x ∷ xs) = refl

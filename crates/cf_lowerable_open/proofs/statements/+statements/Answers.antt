@@ -1,13 +1,12 @@
-use Rattle.std.proofs.Common.{refl, sym, ap, ◌∙◌}
-use Rattle.std.specs.Prelude.{Some, None}
-use Rattle.cf_lower_kept.specs.Opened.{settled}
-use Rattle.cf_lowerable_open.specs.Objects.{behind, placed}
-use Rattle.cf_lowerable_open.specs.Views.{holding, statement_in, statements_in, ways_of, where_of}
-use Rattle.cf_lowerable_open.specs.Walk.{opens, passed}
+use Rattle.std.proofs.Common.{refl, ap, ◌∙◌}
+use Rattle.cf_lower_kept.specs.Opened.{away, is_at, only_if}
+use Rattle.cf_lowerable_open.specs.Objects.{behind, behind_all}
+use Rattle.cf_lowerable_open.specs.Views.{holding, statements_in, ways_of, where_of}
+use Rattle.cf_lowerable_open.specs.Walk.{given, in_passed, in_step, in_switch, in_turn, opens, passed}
 use Rattle.cf_lowerable_open.proofs.Advances.{ended_behind, ended_open}
 use Rattle.cf_lowerable_open.proofs.Forms.{when_act, when_set, when_if, when_loop, when_switch, when_case, when_default, when_break, when_continue, when_return, when_parts}
 use Rattle.cf_lowerable_open.proofs.Holding.{shared_is}
-use Rattle.cf_lowerable_open.proofs.Opens.{branch_open, comes_round, loop_open, pass_open, switch_open}
+use Rattle.cf_lowerable_open.proofs.Opens.{branch_open, comes_round, given_open, loop_open, pass_open, switch_open}
 use Rattle.cf_lowerable_open.proofs.statements.+statements.Goals as goal
 
 pub all_open-returns : goal.all_open-returns
@@ -36,7 +35,10 @@ pass-returns-in_ok-comes-in-Switch t c =
     let w = ways_of c.args.ways.now in
     let before = statements_in x c.args.before.now in
     when_switch x c.args.t.now (λ p. passed p before w c.args.here.items) _ _ _ c.in-Switch.is
-    (pass_open ? w c.args.here.items c.settle-settled.result.items c.settle-settled.ensures c.in-Switch.register (statements_in x c.in-Switch.body) before _ _ ? c.only_if.ensures)
+    (pass_open w c.args.here.items c.settle-settled.result.items c.settle-settled.ensures c.in-Switch.register (statements_in x c.in-Switch.body) before _ _
+    (comes_round (statements_in x c.in-Switch.body) _ _ _ _ _ c.as_slice-list.ensures.value
+    (c.in_ok-inside-in-Switch.ensures ∙ ap (λ l. in_passed w l c.as_slice-list.result.now) (ap (statements_in x) c.as_slice.ensures) ∙ ap (in_passed w before) c.as_slice-list.ensures.value)
+    c.in_ok-comes-in-Switch.ensures) c.only_if.ensures)
 
 pub pass-returns-in-Case : goal.pass-returns-in-Case
 pass-returns-in-Case t c = when_case c.args.x.now c.args.t.now (λ p. passed p (statements_in c.args.x.now c.args.before.now) (ways_of c.args.ways.now) c.args.here.items) _ _ c.in-Case.is refl
@@ -70,19 +72,19 @@ opens-returns-in_ok-place-in-Set t c = record {
 
 pub opens-returns-in_ok-place-in-If : goal.opens-returns-in_ok-place-in-If
 opens-returns-in_ok-place-in-If t c = record {
-  place = when_if c.args.x.now c.args.s.now (λ p. opens p (holding c.args.g.now) (ways_of c.args.ways.now) c.args.here.items) _ _ _ _ c.in-If.is ?;
-  held = when_if c.args.x.now c.args.s.now (λ p. behind p (holding c.args.g.now)) _ _ _ _ c.in-If.is ?;
+  place = when_if c.args.x.now c.args.s.now (λ p. opens p (holding c.args.g.now) (ways_of c.args.ways.now) c.args.here.items) _ _ _ _ c.in-If.is (branch_open (ways_of c.args.ways.now) c.args.here.items c.in-If.register (statements_in c.args.x.now c.in-If.yes) (statements_in c.args.x.now c.in-If.no) (holding c.args.g.now) (holding c.in_ok-other-in-If.other) _ _ _ _ _ _ c.stand.ensures c.as_slice.ensures.value c.in_ok-fallen-in-If.ensures c.in_ok-other-in-If.ensures c.in_ok-chosen-in-If.ensures.place c.in_ok-rest-in-If.ensures.place c.in_ok-place-in-If.ensures);
+  held = when_if c.args.x.now c.args.s.now (λ p. behind p (holding c.args.g.now)) _ _ _ _ c.in-If.is (c.share.ensures ∙ shared_is _ _ _ _ c.in_ok-chosen-in-If.ensures.held (c.in_ok-rest-in-If.ensures.held ∙ ap (behind_all (statements_in c.args.x.now c.in-If.no)) c.in_ok-other-in-If.ensures));
 }
 
 pub opens-returns-in_ok-steps-in-Loop : goal.opens-returns-in_ok-steps-in-Loop
 opens-returns-in_ok-steps-in-Loop t c = record {
-  place = when_loop c.args.x.now c.args.s.now (λ p. opens p (holding c.args.g.now) (ways_of c.args.ways.now) c.args.here.items) _ _ _ c.in-Loop.is ?;
+  place = when_loop c.args.x.now c.args.s.now (λ p. opens p (holding c.args.g.now) (ways_of c.args.ways.now) c.args.here.items) _ _ _ c.in-Loop.is (loop_open (holding c.args.g.now) (ways_of c.args.ways.now) c.args.here.items c.settle-settled.result.items c.settle-settled.ensures (statements_in c.args.x.now c.in-Loop.body) (statements_in c.args.x.now c.in-Loop.next) _ _ _ _ (comes_round (statements_in c.args.x.now c.in-Loop.body) _ _ _ _ _ c.as_slice-list.ensures.value (c.in_ok-turn-in-Loop.ensures ∙ ap in_turn c.as_slice-list.ensures.value) c.in_ok-turns-in-Loop.ensures) (comes_round (statements_in c.args.x.now c.in-Loop.next) _ _ _ _ _ c.as_slice-list.ensures.value (c.in_ok-step-in-Loop.ensures ∙ ap in_step c.as_slice-list.ensures.value) c.in_ok-steps-in-Loop.ensures) c.only_if.ensures c.only_if-2.ensures);
   held = when_loop c.args.x.now c.args.s.now (λ p. behind p (holding c.args.g.now)) _ _ _ c.in-Loop.is c.clear_all-in-Loop.ensures;
 }
 
 pub opens-returns-in_ok-comes-in-Switch : goal.opens-returns-in_ok-comes-in-Switch
 opens-returns-in_ok-comes-in-Switch t c = record {
-  place = when_switch c.args.x.now c.args.s.now (λ p. opens p (holding c.args.g.now) (ways_of c.args.ways.now) c.args.here.items) _ _ _ c.in-Switch.is ?;
+  place = when_switch c.args.x.now c.args.s.now (λ p. opens p (holding c.args.g.now) (ways_of c.args.ways.now) c.args.here.items) _ _ _ c.in-Switch.is (switch_open (holding c.args.g.now) (ways_of c.args.ways.now) c.args.here.items c.settle-settled-in-Switch.result.items c.settle-settled-in-Switch.ensures c.in-Switch.register (statements_in c.args.x.now c.in-Switch.body) _ _ (comes_round (statements_in c.args.x.now c.in-Switch.body) _ _ _ _ _ c.as_slice-list-in-Switch.ensures.value (c.in_ok-inside-in-Switch.ensures ∙ ap (in_switch (ways_of c.args.ways.now)) c.as_slice-list-in-Switch.ensures.value) c.in_ok-comes-in-Switch.ensures) c.only_if-in-Switch.ensures);
   held = when_switch c.args.x.now c.args.s.now (λ p. behind p (holding c.args.g.now)) _ _ _ c.in-Switch.is c.forget.ensures;
 }
 
@@ -100,19 +102,19 @@ opens-returns-in_ok-place-in-Default t c = record {
 
 pub opens-returns-in-Break : goal.opens-returns-in-Break
 opens-returns-in-Break t c = record {
-  place = when_break c.args.x.now c.args.s.now (λ p. opens p (holding c.args.g.now) (ways_of c.args.ways.now) c.args.here.items) _ c.in-Break.is ?;
+  place = when_break c.args.x.now c.args.s.now (λ p. opens p (holding c.args.g.now) (ways_of c.args.ways.now) c.args.here.items) _ c.in-Break.is (c.leave.ensures ∙ ap (λ l. only_if (is_at (ways_of c.args.ways.now).breaks l) away) c.as_slice-in-Break.ensures.value);
   held = when_break c.args.x.now c.args.s.now (λ p. behind p (holding c.args.g.now)) _ c.in-Break.is refl;
 }
 
 pub opens-returns-in-Continue : goal.opens-returns-in-Continue
 opens-returns-in-Continue t c = record {
-  place = when_continue c.args.x.now c.args.s.now (λ p. opens p (holding c.args.g.now) (ways_of c.args.ways.now) c.args.here.items) _ c.in-Continue.is ?;
+  place = when_continue c.args.x.now c.args.s.now (λ p. opens p (holding c.args.g.now) (ways_of c.args.ways.now) c.args.here.items) _ c.in-Continue.is (c.leave-in-Continue.ensures ∙ ap (λ l. only_if (is_at (ways_of c.args.ways.now).continues l) away) c.as_slice-in-Continue.ensures.value);
   held = when_continue c.args.x.now c.args.s.now (λ p. behind p (holding c.args.g.now)) _ c.in-Continue.is refl;
 }
 
 pub opens-returns-in-Return : goal.opens-returns-in-Return
 opens-returns-in-Return t c = record {
-  place = when_return c.args.x.now c.args.s.now (λ p. opens p (holding c.args.g.now) (ways_of c.args.ways.now) c.args.here.items) _ _ c.in-Return.is ?;
+  place = when_return c.args.x.now c.args.s.now (λ p. opens p (holding c.args.g.now) (ways_of c.args.ways.now) c.args.here.items) _ _ c.in-Return.is (c.give.ensures ∙ ap given c.as_slice-in-Return.ensures.value ∙ given_open c.in-Return.register _ _ _);
   held = when_return c.args.x.now c.args.s.now (λ p. behind p (holding c.args.g.now)) _ _ c.in-Return.is refl;
 }
 
