@@ -67,7 +67,7 @@ fn stands_before(x: &Scene<'_>, before: &[Plain], next: &[Plain]) -> bool
 
 /// Whether a switch is by the same register as the next and stands before it.
 fn passes(x: &Scene<'_>, before: Option<Switched<'_>>, next: Option<Switched<'_>>) -> bool
-    ensures { result ≡ spec.passes (option_map (switched_in x.now) before) (option_map (switched_in x.now) next) }
+    ensures { result ≡ spec.passes (option_map (switched_in x.now) before.entry) (option_map (switched_in x.now) next.entry) }
 {
     match (before, next) {
         (Some(before), Some(next)) => {
