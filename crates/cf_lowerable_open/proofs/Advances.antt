@@ -68,8 +68,8 @@ module _ (x : Scene) (w : Ways) (all : List CodePlain) (i : ℕ) (s : CodePlain)
         ap (λ u. onward u (statements_in x (drop (i + 2) all)) h w) made
         ∙ ap (λ k. onward (passed_behind (as_switch (statement_in x s)) (statement_in x t) w xs) (statements_in x (drop (i + 2) all)) k w) held
         ∙ passes_step (statement_in x s) (statement_in x t) (statements_in x (drop (i + 2) all)) g w xs
-          (sym (next_first x (λ ss. passes (as_switch (statement_in x s)) (first_switch ss)) all (i + 1) t next_in at)
-          ∙ sym (ap (λ (l : List CodePlain). passes (as_switch (statement_in x s)) (first_switch (statements_in x l))) same) ∙ passing)
+        (sym (next_first x (λ ss. passes (as_switch (statement_in x s)) (first_switch ss)) all (i + 1) t next_in at)
+        ∙ sym (ap (λ (l : List CodePlain). passes (as_switch (statement_in x s)) (first_switch (statements_in x l))) same) ∙ passing)
         ∙ sym (two_first (λ ss. all_open ss g w xs))
 
     pub behind_two : h ≡ behind (statement_in x t) (behind (statement_in x s) g) → behind_all (statements_in x (drop (i + 2) all)) h ≡ behind_all (statements_in x (drop i all)) g

@@ -39,7 +39,7 @@ function_is tables f b none start g v empty nothing entered walked comes =
     comes ∙ ap (λ l. comes_to l v) empty ∙ ap (comes_to [])
     (walked ∙ ap (λ o. all_open (function_of tables f).body o outside start) nothing
     ∙ ap (all_open (function_of tables f).body no_objects outside)
-      (entered ∙ ap (parameters_open 0) (sym (parameters_taking (map (type_of tables) f.params) (type_of tables f.result) false))))
+    (entered ∙ ap (parameters_open 0) (sym (parameters_taking (map (type_of tables) f.params) (type_of tables f.result) false))))
 
 -- ---- all of them
 

@@ -2,7 +2,7 @@
 use Rattle.std.proofs.Common.{◌≡◌, ℕ, Bool, true, false, ◌&&◌, ◌||◌, ◌==◌, if◌then◌else◌, List, ◌∷◌, refl, sym, ap, ◌∙◌}
 use Rattle.std.specs.Prelude.{ℤ, Option, Some, None, int_le}
 use Rattle.cf_plain.specs.Plain.{Register, number, declare, finish, Plain, Plains, act, set, branch, loop, switch, case_label, default_label, leave, continue, give, parts, nothing, more}
-use Rattle.cf_lower_kept.specs.Opened.{Opened, Where, falls, away, wrong, Ways, ended_by, or_behind, prepared, awaited, is_the_label, is_listed, open_one, declared, declared_at, stands_before}
+use Rattle.cf_lower_kept.specs.Opened.{Opened, Where, falls, away, wrong, Ways, ended_in, ended_by, or_behind, prepared, awaited, is_the_label, is_listed, open_one, declared, declared_at, stands_before}
 use Rattle.cf_lowerable_open.specs.declared.heads.Head.{Head}
 use Rattle.cf_lowerable_open.specs.declared.heads.Head.TheVariants as head
 use Rattle.cf_lowerable_open.specs.Heads.{head_of, head_of_branch, ended_alone, is_nothing, is_set, is_end, ends, is_label, has_label, may_stand, heads_of, declared_by, labelled_by, prepared_by, label_of}
@@ -15,13 +15,24 @@ branch_head F same q None b = refl
 branch_head F same q (Some i) true = same q i
 branch_head F same q (Some i) false = refl
 
+branch_ends : (r q : ℕ) (vs bs : Plains) → ended_in r (branch q vs bs) ≡ ends r (head_of_branch q (ended_alone vs) (is_nothing bs))
+branch_ends r q nothing bs = refl
+branch_ends r q (more (act (finish t i)) nothing) nothing = refl
+branch_ends r q (more (act (finish t i)) nothing) (more u us) = refl
+branch_ends r q (more (act (finish t i)) (more u us)) bs = refl
+branch_ends r q (more (act a) nothing) bs = refl
+branch_ends r q (more (act a) (more u us)) bs = refl
+branch_ends r q (more s nothing) bs = refl
+branch_ends r q (more s (more u us)) bs = refl
+
 ended_step : (r : Register) (s : Plain) (ss : Plains)
     → ended_by r (more s ss) ≡ (if is_set r (head_of s) then None else or_behind (ends r (head_of s)) (ended_by r ss))
 ended_step r (act (declare i t)) ss = refl
 ended_step r (act a) ss = refl
-ended_step r (branch q (more (act (finish t i)) nothing) nothing) ss = refl
-ended_step r (branch q (more (act (finish t i)) nothing) (more u us)) ss = refl
-ended_step r (branch q vs bs) ss = refl
+ended_step r (branch q vs bs) ss =
+    ap (λ o. or_behind o (ended_by r ss)) (branch_ends r q vs bs)
+    ∙ sym (ap (λ b. if b then None else or_behind (ends r (head_of_branch q (ended_alone vs) (is_nothing bs))) (ended_by r ss))
+    (branch_head (is_set r) (λ p i. refl) q (ended_alone vs) (is_nothing bs)))
 ended_step r s ss = refl
 
 chosen_end : (b : Bool) (i : ℕ) (o : Option ℕ) → or_behind (if b then Some i else None) o ≡ (if b then (if b then Some i else None) else o)

@@ -212,7 +212,7 @@ module _ (locals : List SourceType) (result : SourceType) where
   acted_alike g r a xs = refl
 
   at_label : (o : Option (List Opened)) (ss : Plains) (w : Ways) → ((ys : List Opened) → definition.all_open locals result ss nothing_set w ys ≡ walk.all_open ss no_objects w ys)
-      → elim o [ None ↦ wrong | Some ys ↦ definition.all_open locals result ss nothing_set w ys ] ≡ elim o [ None ↦ wrong | Some ys ↦ walk.all_open ss no_objects w ys ]
+      → ◌≡◌ {A = Where} (elim o [ None ↦ wrong | Some ys ↦ definition.all_open locals result ss nothing_set w ys ]) (elim o [ None ↦ wrong | Some ys ↦ walk.all_open ss no_objects w ys ])
   at_label None ss w all = refl
   at_label (Some ys) ss w all = all ys
 
@@ -256,12 +256,12 @@ module _ (locals : List SourceType) (result : SourceType) where
     opens_alike b c (loop ss ts) g w xs v e k =
         let two = both (all_fit locals true true ss) (all_fit locals true false ts) v in
         let kept = both (is_some (after_all locals result ss nothing_set)) (is_some (after_all locals result ts nothing_set))
-            (if_some (is_some (after_all locals result ss nothing_set) && is_some (after_all locals result ts nothing_set)) (Some nothing_set) k).0 in
+        (if_some (is_some (after_all locals result ss nothing_set) && is_some (after_all locals result ts nothing_set)) (Some nothing_set) k).0 in
         let ys : List Opened = map settled xs in
         ap (λ p. only_if (comes_to ys p && comes_to ys (definition.all_open locals result ts nothing_set (in_step ys) ys)) (falls ys))
         (all_alike true true ss nothing_set (in_turn ys) ys (all_loose true true ss two.0) none_typed kept.0)
         ∙ ap (λ p. only_if (comes_to ys (walk.all_open ss no_objects (in_turn ys) ys) && comes_to ys p) (falls ys))
-          (all_alike true false ts nothing_set (in_step ys) ys (all_loose true false ts two.1) none_typed kept.1)
+        (all_alike true false ts nothing_set (in_step ys) ys (all_loose true false ts two.1) none_typed kept.1)
     opens_alike b c (switch r ss) g w xs v e k =
         let two = both (labels_differ locals ss) (labelled_fit locals c ss) v in
         let kept = both (integer_in (g r)) (is_some (after_all locals result ss nothing_set)) (if_some (integer_in (g r) && is_some (after_all locals result ss nothing_set)) (Some (untouched g ss)) k).0 in
@@ -290,7 +290,7 @@ module _ (locals : List SourceType) (result : SourceType) where
         let kept = turn_kept ts (integer_in (near.now r)) (untouched near.now ts) (ap is_some far.is) in
         same_branch ((q == r) && stands_before ss ts)
         (if comes_to ys (definition.all_open locals result ts nothing_set (in_passed w ss ys) ys)
-          then definition.all_open locals result rest (keeping_or (after locals result (switch r ts) (keeping_or (after locals result (switch q ss) g)))) w ys else wrong)
+        then definition.all_open locals result rest (keeping_or (after locals result (switch r ts) (keeping_or (after locals result (switch q ss) g)))) w ys else wrong)
         (Goes (more (switch r ts) rest) w (keeping_or (after locals result (switch q ss) g)) (definition.opens locals result (switch q ss) g w xs))
         (if comes_to ys (walk.all_open ts no_objects (in_passed w ss ys) ys) then walk.all_open rest (behind (switch r ts) (behind (switch q ss) (objects g))) w ys else wrong)
         (Then (more (switch r ts) rest) (behind (switch q ss) (objects g)) w (walk.opens (switch q ss) (objects g) w xs))
@@ -309,7 +309,7 @@ module _ (locals : List SourceType) (result : SourceType) where
         let ready : List Opened = prepared s ss xs in
         step_goes s ss g w xs refl
         ∙ goes_on s ss g next.now w ready next.is at.0 (λ ys. all_alike b c ss next.now w ys two.1 at.1 next.goes) (label_alike b c ss next.now w two.1 at.1 next.goes)
-          (opens_alike b c s g w ready two.0 e (ap is_some next.is))
+        (opens_alike b c s g w ready two.0 e (ap is_some next.is))
         ∙ step_open s ss (objects g) w xs refl
 
     label_alike : (b c : Bool) (ss : Plains) (g : Keeping) (w : Ways) → loose b c ss ≡ true → Typed locals g → is_some (after_all locals result ss g) ≡ true

@@ -4,6 +4,7 @@ use Rattle.std.specs.Prelude.{Option, Some, None, is_some, slice_get}
 use Rattle.cf_base.proofs.Tests.{both}
 use Rattle.cf_core.specs.Types.{SourceType, void, integer, enumeration, class, pointer, reference, array, takes, gives, data_member, function_member, const, type_eq, without_const, same_but_const, is_void, result as result_type}
 use Rattle.cf_core.specs.Core.{arithmetic, moved}
+use Rattle.cf_core.specs.Typing.{is_comparison}
 use Rattle.cf_core.specs.declared.operators.PointerOperator.{PointerOperator}
 use Rattle.cf_core.specs.declared.operators.PointerOperator.TheVariants as pointer_operator
 use Rattle.cf_lower_layout.proofs.Types.{same-without_const}
@@ -11,7 +12,7 @@ use Rattle.cf_lower_kept.proofs.Types.{type-self, same-number}
 use Rattle.cf_plain.specs.Plain as plain
 use Rattle.cf_plain.specs.Plain.{Register, Action}
 use Rattle.cf_plain.specs.Valid.{is_of, action_fits}
-use Rattle.cf_plain_kept.specs.Kept.{Kept, no_value, an_integer, a_place, a_member, an_object, Keeping, nothing_set, keep, kept_of, value_of, common, named, read_kept, pointed_kept, decayed, decayed_kept, forth, moved_kept, to_place, to_member, given, converted, from_void_kept, tested, compared, pointer_operated, changed_kept, stored, begun, pointed_call, filled, kept_by}
+use Rattle.cf_plain_kept.specs.Kept.{Kept, no_value, an_integer, a_place, a_member, an_object, Keeping, nothing_set, keep, kept_of, value_of, common, named, read_kept, pointed_kept, decayed, decayed_kept, forth, moved_kept, to_place, to_member, given, converted, from_void_kept, tested, compared, pointer_operated, changed_kept, stored, begun, pointed_call, filled, kept_by, has_kind, right_has, a_truth, of_kind}
 use Rattle.cf_lower_kept.specs.Opened.{object_kept, same_begun}
 use Rattle.cf_lowerable_open.specs.Objects.{Objects, placed, shared, object_given}
 
@@ -172,7 +173,7 @@ module _ (locals : List SourceType) where
     action_given g (plain.index r q) e = none_given _ (moved_none (g r) (g q))
     action_given g (plain.convert t r) e = none_given _ (converted_none t (g r))
     action_given g (plain.from_void t r) e = none_given _ (from_void_none t (g r))
-    action_given g (plain.operate op k r q) e = none_given _ (if_truth_none _ _ _ _ tt tt)
+    action_given g (plain.operate op k r q) e = none_given _ (if_truth_none (has_kind k (g r) && right_has op k (g q)) (is_comparison op) a_truth (of_kind k) tt tt)
     action_given g (plain.unary op k r) e = none_given _ (given_none _ _ tt)
     action_given g (plain.truth r) e = none_given _ (tested_none (g r))
     action_given g (plain.logical_not r) e = none_given _ (tested_none (g r))
@@ -210,21 +211,75 @@ module _ (locals : List SourceType) where
   meet_test i j t u e f false is = refl
 
   both_objects : (x y : Option Kept) → TypedIn x → TypedIn y → object_kept (common (λ q. x) (λ q. y) 0) ≡ same_begun (object_kept x) (object_kept y)
+  both_objects None y e f = refl
+  both_objects (Some no_value) None e f = refl
+  both_objects (Some no_value) (Some no_value) e f = refl
+  both_objects (Some no_value) (Some (an_integer h)) e f = refl
+  both_objects (Some no_value) (Some (a_place u)) e f = refl
+  both_objects (Some no_value) (Some (a_member u)) e f = refl
+  both_objects (Some no_value) (Some (an_object j u)) e f = refl
+  both_objects (Some (an_integer f)) None e f = refl
+  both_objects (Some (an_integer f)) (Some no_value) e f = refl
+  both_objects (Some (an_integer f)) (Some (an_integer h)) e f = refl
+  both_objects (Some (an_integer f)) (Some (a_place u)) e f = refl
+  both_objects (Some (an_integer f)) (Some (a_member u)) e f = refl
+  both_objects (Some (an_integer f)) (Some (an_object j u)) e f = refl
+  both_objects (Some (a_place t)) None e f = refl
+  both_objects (Some (a_place t)) (Some no_value) e f = refl
+  both_objects (Some (a_place t)) (Some (an_integer h)) e f = refl
   both_objects (Some (a_place t)) (Some (a_place u)) e f = no_object (same_but_const t u) (a_place t) refl
+  both_objects (Some (a_place t)) (Some (a_member u)) e f = refl
+  both_objects (Some (a_place t)) (Some (an_object j u)) e f = refl
+  both_objects (Some (a_member t)) None e f = refl
+  both_objects (Some (a_member t)) (Some no_value) e f = refl
+  both_objects (Some (a_member t)) (Some (an_integer h)) e f = refl
+  both_objects (Some (a_member t)) (Some (a_place u)) e f = refl
   both_objects (Some (a_member t)) (Some (a_member u)) e f = no_object (same_but_const t u) (a_member t) refl
+  both_objects (Some (a_member t)) (Some (an_object j u)) e f = refl
+  both_objects (Some (an_object i t)) None e f = refl
+  both_objects (Some (an_object i t)) (Some no_value) e f = refl
+  both_objects (Some (an_object i t)) (Some (an_integer h)) e f = refl
+  both_objects (Some (an_object i t)) (Some (a_place u)) e f = refl
+  both_objects (Some (an_object i t)) (Some (a_member u)) e f = refl
   both_objects (Some (an_object i t)) (Some (an_object j u)) e f =
       chosen_object ((i == j) && same_but_const t u) i t ∙ ap (λ b. if b then Some i else None) (meet_test i j t u e f (i == j) refl)
-  both_objects x y e f = refl
 
   chosen_typed : (b : Bool) (x : Kept) → TypedIn (Some x) → TypedIn (if b then Some x else None)
   chosen_typed true x e = e
   chosen_typed false x e = tt
 
   both_typed : (x y : Option Kept) → TypedIn x → TypedIn (common (λ q. x) (λ q. y) 0)
+  both_typed None y e = tt
+  both_typed (Some no_value) None e = tt
+  both_typed (Some no_value) (Some no_value) e = tt
+  both_typed (Some no_value) (Some (an_integer h)) e = tt
+  both_typed (Some no_value) (Some (a_place u)) e = tt
+  both_typed (Some no_value) (Some (a_member u)) e = tt
+  both_typed (Some no_value) (Some (an_object j u)) e = tt
+  both_typed (Some (an_integer f)) None e = tt
+  both_typed (Some (an_integer f)) (Some no_value) e = tt
+  both_typed (Some (an_integer f)) (Some (an_integer h)) e = tt
+  both_typed (Some (an_integer f)) (Some (a_place u)) e = tt
+  both_typed (Some (an_integer f)) (Some (a_member u)) e = tt
+  both_typed (Some (an_integer f)) (Some (an_object j u)) e = tt
+  both_typed (Some (a_place t)) None e = tt
+  both_typed (Some (a_place t)) (Some no_value) e = tt
+  both_typed (Some (a_place t)) (Some (an_integer h)) e = tt
   both_typed (Some (a_place t)) (Some (a_place u)) e = chosen_typed (same_but_const t u) (a_place t) tt
+  both_typed (Some (a_place t)) (Some (a_member u)) e = tt
+  both_typed (Some (a_place t)) (Some (an_object j u)) e = tt
+  both_typed (Some (a_member t)) None e = tt
+  both_typed (Some (a_member t)) (Some no_value) e = tt
+  both_typed (Some (a_member t)) (Some (an_integer h)) e = tt
+  both_typed (Some (a_member t)) (Some (a_place u)) e = tt
   both_typed (Some (a_member t)) (Some (a_member u)) e = chosen_typed (same_but_const t u) (a_member t) tt
+  both_typed (Some (a_member t)) (Some (an_object j u)) e = tt
+  both_typed (Some (an_object i t)) None e = tt
+  both_typed (Some (an_object i t)) (Some no_value) e = tt
+  both_typed (Some (an_object i t)) (Some (an_integer h)) e = tt
+  both_typed (Some (an_object i t)) (Some (a_place u)) e = tt
+  both_typed (Some (an_object i t)) (Some (a_member u)) e = tt
   both_typed (Some (an_object i t)) (Some (an_object j u)) e = chosen_typed ((i == j) && same_but_const t u) (an_object i t) e
-  both_typed x y e = tt
 
   pub common_objects : (g h : Keeping) → Typed g → Typed h → objects (common g h) ≡ shared (objects g) (objects h)
   common_objects g h e f = λ j r. both_objects (g r) (h r) (e r) (f r) j

@@ -14,7 +14,7 @@ module _ (w : Ways) (xs : List Opened) where
   branch_open r ss ts g o ys us zs a b v set same unset copied first second both =
       both ∙ ap (λ p. joined p b) (first ∙ ap (all_open ss g w) set)
       ∙ ap (joined (all_open ss g w (where_set r xs)))
-        (second ∙ ap (λ k. all_open ts k w zs) copied ∙ ap (all_open ts g w) (unset ∙ ap (where_unset r) same))
+      (second ∙ ap (λ k. all_open ts k w zs) copied ∙ ap (all_open ts g w) (unset ∙ ap (where_unset r) same))
 
 -- statements from where just these are open to where just they are
 pub comes_round : (ss : Plains) (ys us : List Opened) (w v : Ways) (b : Bool) → us ≡ ys → w ≡ v → b ≡ comes_to us (all_open ss no_objects w us)
@@ -37,7 +37,6 @@ module _ (g : Objects) (w : Ways) (xs ys : List Opened) (settling : ys ≡ map s
       → v ≡ opens (switch r ss) g w xs
   switch_open r ss a v comes made =
       made ∙ ap (λ c. only_if c (falls ys)) comes ∙ ap (λ l. only_if (comes_to l (all_open ss no_objects (in_switch w l) l)) (falls l)) settling
-
 
 -- what is around a switch behind another, by what the statements of that are
 pub headed_passed : (w : Ways) (before : Plains) (ys : List Opened) → in_headed w (heads_of before) ys ≡ in_passed w before ys

@@ -72,7 +72,7 @@ module _ (x : Scene) (all : List CodePlain) (i : ℕ) where
     end_found r o whole test so found inv =
         found ∙ ap (ends r) headed
         ∙ sym (next_first x (ended_by r) all i s within is ∙ end_step r (statement_in x s) Left
-          ∙ if_true _ _ _ (of_head (is_end r) h (head_of (statement_in x s)) b true headed test so)) ∙ inv
+        ∙ if_true _ _ _ (of_head (is_end r) h (head_of (statement_in x s)) b true headed test so)) ∙ inv
 
     pub end_past : (r : ℕ) (whole : Option ℕ) → b ≡ is_end r h → b ≡ false → ended_by r (statements_in x (drop i all)) ≡ whole → ended_by r (statements_in x (drop (i + 1) all)) ≡ whole
     end_past r whole test so inv =

@@ -71,27 +71,22 @@ opens_at (x ∷ xs) [] i lt long = absurd (omega arith)
 opens_at (x ∷ xs) (y ∷ ys) zero lt long = split_and (x.local == y.local) (as_open x.stands y.stands) (same_open xs ys)
 opens_at (x ∷ xs) (y ∷ ys) (suc i) lt long = opens_at xs ys i (omega arith) (omega arith)
 
+and_no : (a b : Bool) → false ≡ b → false ≡ (a && b)
+and_no true b e = e
+and_no false b e = refl
+
 -- lists of which one is longer are not alike
 locals_long : (xs ys : List Opened) → (length xs ≡ length ys → ⊥) → false ≡ same_locals xs ys
 locals_long [] [] ne = absurd (ne refl)
 locals_long [] (y ∷ ys) ne = refl
 locals_long (x ∷ xs) [] ne = refl
-locals_long (x ∷ xs) (y ∷ ys) ne = by (x.local == y.local)
-  where
-    by : (b : Bool) → false ≡ (b && same_locals xs ys)
-    by true = locals_long xs ys (λ e. ne (ap suc e))
-    by false = refl
+locals_long (x ∷ xs) (y ∷ ys) ne = and_no (x.local == y.local) _ (locals_long xs ys (λ e. ne (ap suc e)))
 
 open_long : (xs ys : List Opened) → (length xs ≡ length ys → ⊥) → false ≡ same_open xs ys
 open_long [] [] ne = absurd (ne refl)
 open_long [] (y ∷ ys) ne = refl
 open_long (x ∷ xs) [] ne = refl
-open_long (x ∷ xs) (y ∷ ys) ne = by (x.local == y.local) (as_open x.stands y.stands)
-  where
-    by : (b d : Bool) → false ≡ (b && (d && same_open xs ys))
-    by true true = open_long xs ys (λ e. ne (ap suc e))
-    by true false = refl
-    by false d = refl
+open_long (x ∷ xs) (y ∷ ys) ne = and_no (x.local == y.local) _ (and_no (as_open x.stands y.stands) _ (open_long xs ys (λ e. ne (ap suc e))))
 
 pub locals_longer : (xs ys : List Opened) (b : Bool) → b ≡ (length xs == length ys) → b ≡ false → false ≡ same_locals xs ys
 locals_longer xs ys b is e = locals_long xs ys (other_number (length xs) (length ys) (sym is ∙ e))

@@ -20,11 +20,11 @@ module _ (ss : Plains) (g : Objects) (w : Ways) where
 
 -- ---- a statement that is no switch before a switch
 
-by_test : (b : Bool) (one two : Where) → b ≡ false → two ≡ (if b then one else two)
+pub by_test : (b : Bool) (one two : Where) → b ≡ false → two ≡ (if b then one else two)
 by_test true one two e = absurd (cc)
 by_test false one two e = refl
 
-step_open : (s : Plain) (ss : Plains) (g : Objects) (w : Ways) (xs : List Opened) → passes (as_switch s) (first_switch ss) ≡ false
+pub step_open : (s : Plain) (ss : Plains) (g : Objects) (w : Ways) (xs : List Opened) → passes (as_switch s) (first_switch ss) ≡ false
     → Then ss (behind s g) w (opens s g w (prepared s ss xs)) ≡ all_open (more s ss) g w xs
 step_open (act a) ss g w xs e = refl
 step_open (set r a) ss g w xs e = refl
@@ -72,8 +72,8 @@ pass_open : (q r : Register) (vs bs rest : Plains) (g : Objects) (w : Ways) (xs 
 pass_open q r vs bs rest g w xs e =
     only_onward (comes_to (map settled xs) (all_open bs no_objects (in_passed w vs (map settled xs)) (map settled xs))) rest (behind (switch r bs) (behind (switch q vs) g)) w (map settled xs)
     ∙ by_pass ((q == r) && stands_before vs bs)
-      (if comes_to (map settled xs) (all_open bs no_objects (in_passed w vs (map settled xs)) (map settled xs)) then all_open rest (behind (switch r bs) (behind (switch q vs) g)) w (map settled xs) else wrong)
-      (Then (more (switch r bs) rest) (behind (switch q vs) g) w (opens (switch q vs) g w xs)) e
+    (if comes_to (map settled xs) (all_open bs no_objects (in_passed w vs (map settled xs)) (map settled xs)) then all_open rest (behind (switch r bs) (behind (switch q vs) g)) w (map settled xs) else wrong)
+    (Then (more (switch r bs) rest) (behind (switch q vs) g) w (opens (switch q vs) g w xs)) e
 
 no_pass : {A : Type 0} (p : Option (Register × Plains)) → passes p None ≡ true → A
 no_pass None e = absurd (cc)

@@ -1,6 +1,6 @@
 //! What is open where statements end.
 
-ghost use Rattle.std.specs.Prelude.{◌≡◌, IfOk};
+ghost use Rattle.std.specs.Prelude.{◌≡◌, ◌++◌, IfOk, OnOk};
 ghost use Rattle.cf_lower_kept.specs.Opened as spec;
 ghost use Rattle.cf_lower_kept.specs.Opened.{falls};
 ghost use Rattle.cf_lowerable_open.specs.Views.{items_of, where_of};
@@ -21,15 +21,28 @@ pub enum Where {
     Wrong,
 }
 
+/// Puts what is so on both of two ways behind others.
+fn add_both(left: &[Opened], right: &[Opened], made: &mut Vec<Opened>) -> Result<(), Memory>
+    ensures { OnOk result (made.new.items ≡ made.old.items ++ spec.both_opened left.now right.now) }
+{
+    match left.split_first() {
+        None => Ok(()),
+        Some((x, xs)) => match right.split_first() {
+            None => Ok(()),
+            Some((y, ys)) => {
+                made.push(x.both(y))?;
+                add_both(xs, ys, made)
+            }
+        },
+    }
+}
+
 /// What is so on both of two ways, on which the same locals are listed.
 fn both(alloc: Global, left: &[Opened], right: &[Opened]) -> Result<Vec<Opened>, Memory>
     ensures { IfOk result (λ made. made.items ≡ spec.both_opened left.now right.now) }
 {
-    let made = left
-        .iter()
-        .zip(right)
-        .map(|(x, y)| x.both(y))
-        .collect(alloc)?;
+    let mut made = Vec::new(alloc);
+    add_both(left, right, &mut made)?;
     Ok(made)
 }
 
@@ -38,11 +51,7 @@ fn met(alloc: Global, left: Vec<Opened>, right: Vec<Opened>) -> Result<Where, Me
     ensures { IfOk result (λ place. where_of place ≡ spec.joined (falls left.items) (falls right.items)) }
 {
     if same_locals(left.as_slice(), right.as_slice()) {
-        Ok(Where::Falls(both(
-            alloc,
-            left.as_slice(),
-            right.as_slice(),
-        )?))
+        Ok(Where::Falls(both(alloc, left.as_slice(), right.as_slice())?))
     } else {
         Ok(Where::Wrong)
     }

@@ -28,13 +28,7 @@ fn ended(register: u32, head: Head) -> Option<u32>
     ensures { result ≡ spec.ends register head }
 {
     match head {
-        Head::Ends(other, local) => {
-            if other == register {
-                Some(local)
-            } else {
-                None
-            }
-        }
+        Head::Ends(other, local) => { if other == register { Some(local) } else { None } }
         Head::Case(_)
         | Head::Default
         | Head::Leaves

@@ -3,6 +3,7 @@
 ghost use Rattle.std.specs.Prelude.{◌≡◌};
 ghost use Rattle.std.specs.Option.{option_map};
 ghost use Rattle.cf_lowerable_open.specs.Heads as spec;
+ghost use Rattle.cf_lowerable_open.specs.declared.heads.Head.TheVariants as variant;
 ghost use Rattle.cf_lowerable_open.specs.Views.{action_in, statement_in, statements_in, switched_in};
 
 use crate::scene::Scene;
@@ -112,6 +113,13 @@ fn is_nothing(x: &Scene<'_>, all: &[Plain]) -> bool
     all.is_empty()
 }
 
+/// What a label of a number is.
+fn case_head(value: i64) -> Head
+    ensures { result ≡ variant.Case value }
+{
+    Head::Case(value)
+}
+
 /// What a statement is.
 pub fn read_head(x: &Scene<'_>, s: &Plain) -> Head
     ensures { result ≡ spec.head_of (statement_in x.now s.now) }
@@ -119,12 +127,10 @@ pub fn read_head(x: &Scene<'_>, s: &Plain) -> Head
     match s {
         Plain::Act { action } => head_of_action(x, action),
         Plain::Set { register, action } => Head::Sets(*register, is_number(x, action)),
-        Plain::If { register, yes, no } => {
-            branched(x, *register, yes.as_slice(), no.as_slice())
-        }
+        Plain::If { register, yes, no } => { branched(x, *register, yes.as_slice(), no.as_slice()) }
         Plain::Loop { .. } => Head::Other,
         Plain::Switch { .. } => Head::Other,
-        Plain::Case { value } => Head::Case(*value),
+        Plain::Case { value } => case_head(*value),
         Plain::Default => Head::Default,
         Plain::Break => Head::Leaves,
         Plain::Continue => Head::Other,

@@ -124,11 +124,9 @@ fn declared(all: &[Head], here: Vec<Opened>) -> Result<Option<Vec<Opened>>, Memo
                 }
             }
             Head::Leaves => Ok(Some(made)),
-            Head::Case(_)
-            | Head::Default
-            | Head::Sets(_, _)
-            | Head::Ends(_, _)
-            | Head::Other => Ok(None),
+            Head::Case(_) | Head::Default | Head::Sets(_, _) | Head::Ends(_, _) | Head::Other => Ok(
+                None,
+            ),
         },
     }
 }
@@ -198,10 +196,8 @@ pub fn land(x: &Scene<'_>, s: &Plain, ways: &Ways) -> Result<Where, Memory>
             let found = at_label(x.alloc, &ways.labels, None)?;
             Ok(landed(found))
         }
-        Head::Leaves
-        | Head::Declares(_)
-        | Head::Sets(_, _)
-        | Head::Ends(_, _)
-        | Head::Other => Ok(Where::Away),
+        Head::Leaves | Head::Declares(_) | Head::Sets(_, _) | Head::Ends(_, _) | Head::Other => Ok(
+            Where::Away,
+        ),
     }
 }

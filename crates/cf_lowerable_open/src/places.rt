@@ -197,12 +197,7 @@ pub fn in_switch(alloc: Global, ways: &Ways, here: &[Opened]) -> Result<Ways, Me
 }
 
 /// What is around the statements of a switch behind one of these statements.
-fn in_headed(
-    alloc: Global,
-    ways: &Ways,
-    before: Vec<Head>,
-    here: &[Opened],
-) -> Result<Ways, Memory>
+fn in_headed(alloc: Global, ways: &Ways, before: Vec<Head>, here: &[Opened]) -> Result<Ways, Memory>
     ensures { IfOk result (λ w. ways_of w ≡ spec.in_headed (ways_of ways.now) before.items here.now) }
 {
     let breaks = copied(alloc, here)?;

@@ -191,12 +191,7 @@ fn pass(
 
 /// Whether statements before which no register is told of come to a place where just these are open, which are open before them too.
 #[cycle(statements)]
-fn inner(
-    x: &Scene<'_>,
-    all: &Items<Plain>,
-    ways: &Ways,
-    here: &[Opened],
-) -> Result<bool, Memory>
+fn inner(x: &Scene<'_>, all: &Items<Plain>, ways: &Ways, here: &[Opened]) -> Result<bool, Memory>
     ensures { IfOk result (λ comes. comes ≡ definition.comes_to here.now (spec.all_open (statements_in x.now all.now) objects.no_objects (ways_of ways.now) here.now)) }
 {
     let mut g = Objects::new(x.alloc);

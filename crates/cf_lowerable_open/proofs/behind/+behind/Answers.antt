@@ -19,11 +19,11 @@ go_behind_all-returns t c =
 pub go_behind-returns-in-Act : goal.go_behind-returns-in-Act
 go_behind-returns-in-Act t c = when_act c.args.x.now c.args.s.now (λ p. behind p (holding c.args.g.now)) _ _ c.in-Act.is refl
 
-pub go_behind-returns-in-Set : goal.go_behind-returns-in-Set
-go_behind-returns-in-Set t c = when_set c.args.x.now c.args.s.now (λ p. behind p (holding c.args.g.now)) _ _ _ c.in-Set.is (c.in_ok-place-in-Set.ensures ∙ ap (placed (holding c.args.g.now) c.in-Set.register) c.object_given.ensures)
+pub go_behind-returns-in_ok-place-in-Set : goal.go_behind-returns-in_ok-place-in-Set
+go_behind-returns-in_ok-place-in-Set t c = when_set c.args.x.now c.args.s.now (λ p. behind p (holding c.args.g.now)) _ _ _ c.in-Set.is (c.in_ok-place-in-Set.ensures ∙ ap (placed (holding c.args.g.now) c.in-Set.register) c.object_given.ensures)
 
-pub go_behind-returns-in-If : goal.go_behind-returns-in-If
-go_behind-returns-in-If t c = when_if c.args.x.now c.args.s.now (λ p. behind p (holding c.args.g.now)) _ _ _ _ c.in-If.is (c.share.ensures ∙ shared_is (holding c.go_behind_all.new.g) _ (holding c.go_behind_all-in-If.new.g) _ c.in_ok-go_behind_all-in-If.ensures (c.in_ok-go_behind_all-in-If-2.ensures ∙ ap (behind_all _) c.in_ok-other-in-If.ensures))
+pub go_behind-returns-in_ok-go_behind_all-in-If-2 : goal.go_behind-returns-in_ok-go_behind_all-in-If-2
+go_behind-returns-in_ok-go_behind_all-in-If-2 t c = when_if c.args.x.now c.args.s.now (λ p. behind p (holding c.args.g.now)) _ _ _ _ c.in-If.is (c.share.ensures ∙ shared_is (holding c.go_behind_all.new.g) _ (holding c.go_behind_all-in-If.new.g) _ c.in_ok-go_behind_all-in-If.ensures (c.in_ok-go_behind_all-in-If-2.ensures ∙ ap (behind_all _) c.in_ok-other-in-If.ensures))
 
 pub go_behind-returns-in-Loop : goal.go_behind-returns-in-Loop
 go_behind-returns-in-Loop t c = when_loop c.args.x.now c.args.s.now (λ p. behind p (holding c.args.g.now)) _ _ _ c.in-Loop.is c.clear_all.ensures

@@ -11,7 +11,7 @@ returns c =
     let unit = c.args.unit.now in
     let tables : Tables = record { types = c.types.result.now; classes = c.classes.result.now } in
     let same : tables ≡ tables_of unit =
-        ap (λ t. record { types = t; classes = c.classes.result.now }) c.types.ensures ∙ ap (λ k. record { types = unit.types; classes = k }) c.classes.ensures in
+    ap (λ t. record { types = t; classes = c.classes.result.now }) c.types.ensures ∙ ap (λ k. record { types = unit.types; classes = k }) c.classes.ensures in
     let is = unit_is unit tables c.functions.result.now same c.functions.ensures.functions in
     let walked = subst (λ (b : Bool). IfOk c.all_functions_open.result (λ r. r ≡ b)) is c.all_functions_open.ensures in
     record {
