@@ -135,6 +135,9 @@ passed_behind (Some (r, ss)) t w xs = passed t ss w xs
 abbrev pub done : Objects → Option Register → Action → List Opened → Where
 done g r a xs = only_if (may_act g a xs) (falls (acted g r a xs))
 
+abbrev pub set_done : Objects → Register → Action → List Opened → Where
+set_done g r a xs = only_if (may_act g a xs) (falls (acted g (Some r) a (set_in r xs)))
+
 abbrev pub labelled : Option ℤ → Ways → List Opened → Where
 labelled l w xs = only_if (is_at (w.labels l) xs) (falls (map settled xs))
 

@@ -53,7 +53,8 @@ fn function_opens(x: &Scene<'_>, f: &PlainFn) -> Result<bool, Memory>
     let here = parameters_open(x, f.params.as_slice())?;
     let place = all_open(x, &f.body, &mut g, &outside, here)?;
     let nothing = Vec::new(x.alloc);
-    Ok(comes_to(nothing.as_slice(), &place))
+    let list = nothing.as_slice();
+    Ok(comes_to(list, &place))
 }
 
 /// Whether locals are declared, begun and ended in order in each of some functions.

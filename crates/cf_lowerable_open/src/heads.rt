@@ -114,10 +114,10 @@ fn is_nothing(x: &Scene<'_>, all: &[Plain]) -> bool
 }
 
 /// What a label of a number is.
-fn case_head(value: i64) -> Head
-    ensures { result ≡ variant.Case value }
+fn case_head(value: &i64) -> Head
+    ensures { result ≡ variant.Case value.now }
 {
-    Head::Case(value)
+    Head::Case(*value)
 }
 
 /// What a statement is.
@@ -130,7 +130,7 @@ pub fn read_head(x: &Scene<'_>, s: &Plain) -> Head
         Plain::If { register, yes, no } => { branched(x, *register, yes.as_slice(), no.as_slice()) }
         Plain::Loop { .. } => Head::Other,
         Plain::Switch { .. } => Head::Other,
-        Plain::Case { value } => case_head(*value),
+        Plain::Case { value } => case_head(value),
         Plain::Default => Head::Default,
         Plain::Break => Head::Leaves,
         Plain::Continue => Head::Other,

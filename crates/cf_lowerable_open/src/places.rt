@@ -9,7 +9,7 @@ ghost use Rattle.cf_lowerable_open.specs.Walk as spec;
 
 use crate::actions::{act, may_act, object_given};
 use crate::changes::{Change, change_all};
-use crate::ends::{Where, is_at};
+use crate::ends::{Where, is_at, only_if};
 use crate::heads::Head;
 use crate::labels::{all_heads, at_label};
 use crate::lists::close_by;
@@ -84,12 +84,26 @@ pub fn set(
     a: &Action,
     here: Vec<Opened>,
 ) -> Result<Where, Memory>
-    ensures place { IfOk result (λ place. where_of place ≡ spec.done (holding g.old) (Some register) (action_in x.now a.now) (definition.set_in register here.items)) }
+    ensures place { IfOk result (λ place. where_of place ≡ spec.set_done (holding g.old) register (action_in x.now a.now) here.items) }
     ensures held { OnOk result (holding g.new ≡ objects.placed (holding g.old) register (objects.object_given (action_in x.now a.now))) }
 {
-    let place = done(x, g, Some(register), a, overwrite(register, here))?;
+    let may = may_act(x, g, a, here.as_slice());
+    let mut all = overwrite(register, here);
+    act(x, g, Some(register), a, &mut all)?;
     g.place(register, object_given(x, a))?;
-    Ok(place)
+    Ok(only_if(may, Where::Falls(all)))
+}
+
+/// Behind a label of this number to which control falls.
+pub fn labelled_case(
+    x: &Scene<'_>,
+    value: &i64,
+    ways: &Ways,
+    here: Vec<Opened>,
+) -> Result<Where, Memory>
+    ensures { IfOk result (λ place. where_of place ≡ spec.labelled (Some value.now) (ways_of ways.now) here.items) }
+{
+    labelled(x, Some(*value), ways, here)
 }
 
 /// Behind a label to which control falls.

@@ -16,7 +16,8 @@ use crate::labels::{is_before, land};
 use crate::objects::Objects;
 use crate::opened::Opened;
 use crate::places::{
-    done, fall, give, in_passed, in_step, in_switch, in_turn, labelled, leave, set, settle, stand,
+    done, fall, give, in_passed, in_step, in_switch, in_turn, labelled, labelled_case, leave, set,
+    settle, stand,
 };
 use crate::scene::Scene;
 use crate::ways::Ways;
@@ -83,7 +84,8 @@ fn advance(
     match place {
         Where::Falls(here) => {
             if is_before(x, s, rest) {
-                let place = two(x, &list[index + 1], s, g, ways, here)?;
+                let t = &list[index + 1];
+                let place = two(x, t, s, g, ways, here)?;
                 Ok(Next {
                     place,
                     index: index + 2,
@@ -249,7 +251,7 @@ fn opens(
             Ok(only_if(comes, Where::Falls(settled)))
         }
         Plain::Case { value } => {
-            let place = labelled(x, Some(*value), ways, here)?;
+            let place = labelled_case(x, value, ways, here)?;
             g.clear_all();
             Ok(place)
         }

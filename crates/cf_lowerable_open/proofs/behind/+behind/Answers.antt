@@ -1,6 +1,6 @@
 use Rattle.std.proofs.Common.{refl, ap, ◌∙◌}
 use Rattle.cf_lowerable_open.specs.Objects.{behind, behind_all, placed}
-use Rattle.cf_lowerable_open.specs.Views.{holding}
+use Rattle.cf_lowerable_open.specs.Views.{holding, statements_in}
 use Rattle.cf_lowerable_open.proofs.Forms.{when_act, when_set, when_if, when_loop, when_switch, when_case, when_default, when_break, when_continue, when_return, when_parts}
 use Rattle.cf_lowerable_open.proofs.Holding.{shared_is}
 use Rattle.cf_lowerable_open.proofs.Steps.{all_behind, behind_step}
@@ -23,7 +23,7 @@ pub go_behind-returns-in_ok-place-in-Set : goal.go_behind-returns-in_ok-place-in
 go_behind-returns-in_ok-place-in-Set t c = when_set c.args.x.now c.args.s.now (λ p. behind p (holding c.args.g.now)) _ _ _ c.in-Set.is (c.in_ok-place-in-Set.ensures ∙ ap (placed (holding c.args.g.now) c.in-Set.register) c.object_given.ensures)
 
 pub go_behind-returns-in_ok-go_behind_all-in-If-2 : goal.go_behind-returns-in_ok-go_behind_all-in-If-2
-go_behind-returns-in_ok-go_behind_all-in-If-2 t c = when_if c.args.x.now c.args.s.now (λ p. behind p (holding c.args.g.now)) _ _ _ _ c.in-If.is (c.share.ensures ∙ shared_is (holding c.go_behind_all.new.g) _ (holding c.go_behind_all-in-If.new.g) _ c.in_ok-go_behind_all-in-If.ensures (c.in_ok-go_behind_all-in-If-2.ensures ∙ ap (behind_all _) c.in_ok-other-in-If.ensures))
+go_behind-returns-in_ok-go_behind_all-in-If-2 t c = when_if c.args.x.now c.args.s.now (λ p. behind p (holding c.args.g.now)) _ _ _ _ c.in-If.is (c.share.ensures ∙ shared_is (holding c.go_behind_all.new.g) _ (holding c.go_behind_all-in-If.new.g) _ c.in_ok-go_behind_all-in-If.ensures (c.in_ok-go_behind_all-in-If-2.ensures ∙ ap (behind_all (statements_in c.args.x.now c.in-If.no)) c.in_ok-other-in-If.ensures))
 
 pub go_behind-returns-in-Loop : goal.go_behind-returns-in-Loop
 go_behind-returns-in-Loop t c = when_loop c.args.x.now c.args.s.now (λ p. behind p (holding c.args.g.now)) _ _ _ c.in-Loop.is c.clear_all.ensures

@@ -7,4 +7,4 @@ use Rattle.cf_lowerable_open.proofs.functions.all_functions_open.Given as goal
 
 abbrev pub invariant-loop-f : goal.invariant-loop-f
 invariant-loop-f l =
-    list_all function_opens (map (function_of (tables_in l.x)) (drop l.f-index l.f-items)) ≡ list_all function_opens (map (function_of (tables_in l.x)) l.f-items)
+    list_all function_opens (map (function_of (tables_in l.x)) (drop l.f-index l.functions)) ≡ list_all function_opens (map (function_of (tables_in l.x)) l.functions)

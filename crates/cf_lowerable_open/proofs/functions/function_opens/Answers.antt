@@ -5,5 +5,5 @@ use Rattle.cf_lowerable_open.proofs.functions.function_opens.Goals as goal
 
 pub returns : goal.returns
 returns c =
-    function_is (tables_in c.args.x.now) c.args.f.now c.comes_to.result c.as_slice.result.now c.in_ok-here.here.items (holding c.new-g.result) (where_of c.in_ok-place.place)
-    (c.as_slice.ensures.value ∙ c.new-nothing.ensures.items) c.new-g.ensures c.in_ok-here.ensures c.in_ok-place.ensures.place c.comes_to.ensures
+    function_is (tables_in c.args.x.now) c.args.f.now c.comes_to.result c.as_slice-list.result.now c.in_ok-here.here.items (holding c.new-g.result) (where_of c.in_ok-place.place)
+    (c.as_slice-list.ensures.value ∙ c.new-nothing.ensures.items) c.new-g.ensures c.in_ok-here.ensures c.in_ok-place.ensures.place c.comes_to.ensures

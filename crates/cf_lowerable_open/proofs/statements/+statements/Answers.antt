@@ -1,8 +1,8 @@
-use Rattle.std.proofs.Common.{refl, ap, ◌∙◌}
-use Rattle.cf_lower_kept.specs.Opened.{away, is_at, only_if}
-use Rattle.cf_lowerable_open.specs.Objects.{behind, behind_all}
+use Rattle.std.proofs.Common.{◌≤◌, length, refl, ap, ◌∙◌, arith}
+use Rattle.cf_lower_kept.specs.Opened.{away, comes_to, is_at, only_if}
+use Rattle.cf_lowerable_open.specs.Objects.{behind, behind_all, no_objects}
 use Rattle.cf_lowerable_open.specs.Views.{holding, statements_in, ways_of, where_of}
-use Rattle.cf_lowerable_open.specs.Walk.{given, in_passed, in_step, in_switch, in_turn, opens, passed}
+use Rattle.cf_lowerable_open.specs.Walk.{all_open, given, in_passed, in_step, in_switch, in_turn, opens, passed}
 use Rattle.cf_lowerable_open.proofs.Advances.{ended_behind, ended_open}
 use Rattle.cf_lowerable_open.proofs.Forms.{when_act, when_set, when_if, when_loop, when_switch, when_case, when_default, when_break, when_continue, when_return, when_parts}
 use Rattle.cf_lowerable_open.proofs.Holding.{shared_is}
@@ -12,10 +12,31 @@ use Rattle.cf_lowerable_open.proofs.statements.+statements.Goals as goal
 pub all_open-returns : goal.all_open-returns
 all_open-returns t c =
     let x = c.args.x.now in
+    let past : length c.args.all.now ≤ c.loop-next.next.index = omega (arith, c.loop-next-test.false, c.len.ensures) in
     record {
-      place = ended_open x c.args.all.now c.loop-next.next.index (where_of c.loop-next.next.place) _ (holding c.loop-next.g) (ways_of c.args.ways.now) c.loop-next-test.false c.loop-next.invariant.place;
-      held = ended_behind x c.args.all.now c.loop-next.next.index (holding c.loop-next.g) _ c.loop-next-test.false c.loop-next.invariant.held;
+      place = ended_open x c.args.all.now c.loop-next.next.index (where_of c.loop-next.next.place) _ (holding c.loop-next.g) (ways_of c.args.ways.now) past c.loop-next.invariant.place;
+      held = ended_behind x c.args.all.now c.loop-next.next.index (holding c.loop-next.g) _ past c.loop-next.invariant.held;
     }
+
+pub inner-returns : goal.inner-returns
+inner-returns t c =
+    let ss = statements_in c.args.x.now c.args.all.now in
+    let w = ways_of c.args.ways.now in
+    c.comes_to.ensures
+    ∙ ap (comes_to c.args.here.now)
+    (c.in_ok-place.ensures.place ∙ ap (λ o. all_open ss o w c.in_ok-start.start.items) c.new-g.ensures ∙ ap (all_open ss no_objects w) c.in_ok-start.ensures.items)
+
+pub advance-returns-in_ok-place-in-Falls-clause-place : goal.advance-returns-in_ok-place-in-Falls-clause-place
+advance-returns-in_ok-place-in-Falls-clause-place t c = ?
+
+pub advance-returns-in_ok-place-in-Falls-2-clause-place : goal.advance-returns-in_ok-place-in-Falls-2-clause-place
+advance-returns-in_ok-place-in-Falls-2-clause-place t c = ?
+
+pub advance-returns-in_ok-go_behind-in-Away-clause-place : goal.advance-returns-in_ok-go_behind-in-Away-clause-place
+advance-returns-in_ok-go_behind-in-Away-clause-place t c = ?
+
+pub advance-returns-in_ok-go_behind-in-Wrong-clause-held : goal.advance-returns-in_ok-go_behind-in-Wrong-clause-held
+advance-returns-in_ok-go_behind-in-Wrong-clause-held t c = ?
 
 pub pass-returns-in-Act : goal.pass-returns-in-Act
 pass-returns-in-Act t c = when_act c.args.x.now c.args.t.now (λ p. passed p (statements_in c.args.x.now c.args.before.now) (ways_of c.args.ways.now) c.args.here.items) _ _ c.in-Act.is refl
@@ -78,8 +99,8 @@ opens-returns-in_ok-place-in-If t c = record {
 
 pub opens-returns-in_ok-steps-in-Loop : goal.opens-returns-in_ok-steps-in-Loop
 opens-returns-in_ok-steps-in-Loop t c = record {
-  place = when_loop c.args.x.now c.args.s.now (λ p. opens p (holding c.args.g.now) (ways_of c.args.ways.now) c.args.here.items) _ _ _ c.in-Loop.is (loop_open (holding c.args.g.now) (ways_of c.args.ways.now) c.args.here.items c.settle-settled.result.items c.settle-settled.ensures (statements_in c.args.x.now c.in-Loop.body) (statements_in c.args.x.now c.in-Loop.next) _ _ _ _ (comes_round (statements_in c.args.x.now c.in-Loop.body) _ _ _ _ _ c.as_slice-list.ensures.value (c.in_ok-turn-in-Loop.ensures ∙ ap in_turn c.as_slice-list.ensures.value) c.in_ok-turns-in-Loop.ensures) (comes_round (statements_in c.args.x.now c.in-Loop.next) _ _ _ _ _ c.as_slice-list.ensures.value (c.in_ok-step-in-Loop.ensures ∙ ap in_step c.as_slice-list.ensures.value) c.in_ok-steps-in-Loop.ensures) c.only_if.ensures c.only_if-2.ensures);
-  held = when_loop c.args.x.now c.args.s.now (λ p. behind p (holding c.args.g.now)) _ _ _ c.in-Loop.is c.clear_all-in-Loop.ensures;
+  place = when_loop c.args.x.now c.args.s.now (λ p. opens p (holding c.args.g.now) (ways_of c.args.ways.now) c.args.here.items) _ _ _ c.in-Loop.is (loop_open (holding c.args.g.now) (ways_of c.args.ways.now) c.args.here.items c.settle-settled.result.items c.settle-settled.ensures (statements_in c.args.x.now c.in-Loop.body) (statements_in c.args.x.now c.in-Loop.next) _ _ _ _ (comes_round (statements_in c.args.x.now c.in-Loop.body) _ _ _ _ _ c.as_slice-list.ensures.value (c.in_ok-turn-in-Loop.ensures ∙ ap in_turn c.as_slice-list.ensures.value) c.in_ok-turns-in-Loop.ensures) (comes_round (statements_in c.args.x.now c.in-Loop.next) _ _ _ _ _ c.as_slice-list.ensures.value (c.in_ok-step-in-Loop.ensures ∙ ap in_step c.as_slice-list.ensures.value) c.in_ok-steps-in-Loop.ensures) c.only_if.ensures c.only_if-in-Loop.ensures);
+  held = when_loop c.args.x.now c.args.s.now (λ p. behind p (holding c.args.g.now)) _ _ _ c.in-Loop.is c.clear_all.ensures;
 }
 
 pub opens-returns-in_ok-comes-in-Switch : goal.opens-returns-in_ok-comes-in-Switch
@@ -114,7 +135,7 @@ opens-returns-in-Continue t c = record {
 
 pub opens-returns-in-Return : goal.opens-returns-in-Return
 opens-returns-in-Return t c = record {
-  place = when_return c.args.x.now c.args.s.now (λ p. opens p (holding c.args.g.now) (ways_of c.args.ways.now) c.args.here.items) _ _ c.in-Return.is (c.give.ensures ∙ ap given c.as_slice-in-Return.ensures.value ∙ given_open c.in-Return.register _ _ _);
+  place = when_return c.args.x.now c.args.s.now (λ p. opens p (holding c.args.g.now) (ways_of c.args.ways.now) c.args.here.items) _ _ c.in-Return.is (c.give.ensures ∙ ap given c.as_slice-in-Return.ensures.value ∙ given_open c.in-Return.register (holding c.args.g.now) (ways_of c.args.ways.now) c.args.here.items);
   held = when_return c.args.x.now c.args.s.now (λ p. behind p (holding c.args.g.now)) _ _ c.in-Return.is refl;
 }
 
