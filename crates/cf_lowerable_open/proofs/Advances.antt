@@ -1,5 +1,5 @@
 -- From one place among statements to the next.
-use Rattle.std.proofs.Common.{◌≡◌, ℕ, suc, ◌+◌, ◌<◌, ◌≤◌, Bool, true, false, List, [], ◌∷◌, length, drop, get_or, refl, sym, ap, ◌∙◌, arith}
+use Rattle.std.proofs.Common.{◌≡◌, ℕ, suc, ◌+◌, ◌<◌, ◌≤◌, Bool, true, false, List, [], ◌∷◌, length, drop, get_or, refl, sym, ap, ◌∙◌, subst, arith, length-drop}
 use Rattle.std.specs.Prelude.{Option}
 use Rattle.cf_plain.specs.declared.statement.Plain.{Plain as CodePlain}
 use Rattle.cf_plain.specs.Plain.{Register, Plain, Plains, nothing, more}
@@ -74,3 +74,47 @@ module _ (x : Scene) (w : Ways) (all : List CodePlain) (i : ℕ) (s : CodePlain)
 
     pub behind_two : h ≡ behind (statement_in x t) (behind (statement_in x s) g) → behind_all (statements_in x (drop (i + 2) all)) h ≡ behind_all (statements_in x (drop i all)) g
     behind_two held = ap (behind_all (statements_in x (drop (i + 2) all))) held ∙ sym (two_first (λ ss. behind_all ss g))
+
+-- ---- the same of a list that is the statements, where control is told to be
+
+module _ (x : Scene) (w : Ways) (list all : List CodePlain) (same : list ≡ all) (i : ℕ) (within : i < length all) (s : CodePlain) (is : s ≡ get_or list i s) (g h : Objects) where
+  in_list : i < length list
+  in_list = omega (arith, within, ap length same)
+
+  pub one_done : (rest : List CodePlain) (v u : Where) (xs : List Opened) (b : Bool) → rest ≡ drop (i + 1) list
+      → b ≡ passes (as_switch (statement_in x s)) (first_switch (statements_in x rest)) → b ≡ false → u ≡ falls xs
+      → v ≡ opens (statement_in x s) g w (prepared_by (head_of (statement_in x s)) (statements_in x rest) xs) → h ≡ behind (statement_in x s) g
+      → onward v (statements_in x (drop (i + 1) all)) h w ≡ onward u (statements_in x (drop i all)) g w
+  one_done rest v u xs b at test so here made held =
+      subst (λ (l : List CodePlain). onward v (statements_in x (drop (i + 1) l)) h w ≡ onward (falls xs) (statements_in x (drop i l)) g w) same
+      (one_on x w list i s in_list is g h rest v xs at (sym test ∙ so) made held)
+      ∙ ap (λ p. onward p (statements_in x (drop i all)) g w) (sym here)
+
+  pub away_done : (v u : Where) → u ≡ away → v ≡ landed_at (label_of (head_of (statement_in x s))) w → h ≡ behind (statement_in x s) g
+      → onward v (statements_in x (drop (i + 1) all)) h w ≡ onward u (statements_in x (drop i all)) g w
+  away_done v u here made held =
+      subst (λ (l : List CodePlain). onward v (statements_in x (drop (i + 1) l)) h w ≡ onward away (statements_in x (drop i l)) g w) same
+      (away_on x w list i s in_list is g h v made held)
+      ∙ ap (λ p. onward p (statements_in x (drop i all)) g w) (sym here)
+
+  pub behind_done : h ≡ behind (statement_in x s) g → behind_all (statements_in x (drop (i + 1) all)) h ≡ behind_all (statements_in x (drop i all)) g
+  behind_done held =
+      subst (λ (l : List CodePlain). behind_all (statements_in x (drop (i + 1) l)) h ≡ behind_all (statements_in x (drop i l)) g) same
+      (behind_on x w list i s in_list is g h held)
+
+  module _ (t : CodePlain) (at : t ≡ get_or list (i + 1) t) (rest : List CodePlain) (behind_it : rest ≡ drop (i + 1) list) (b : Bool)
+      (test : b ≡ passes (as_switch (statement_in x s)) (first_switch (statements_in x rest))) (so : b ≡ true) where
+    next_in : i + 1 < length list
+    next_in = omega (arith, in_list, next_there x (statement_in x s) rest (sym test ∙ so), ap length behind_it, length-drop (i + 1) list)
+
+    pub two_done : (v u : Where) (xs : List Opened) → u ≡ falls xs → v ≡ passed_behind (as_switch (statement_in x s)) (statement_in x t) w xs
+        → h ≡ behind (statement_in x t) (behind (statement_in x s) g) → onward v (statements_in x (drop (i + 2) all)) h w ≡ onward u (statements_in x (drop i all)) g w
+    two_done v u xs here made held =
+        subst (λ (l : List CodePlain). onward v (statements_in x (drop (i + 2) l)) h w ≡ onward (falls xs) (statements_in x (drop i l)) g w) same
+        (two_on x w list i s in_list is g h t next_in at rest v xs behind_it (sym test ∙ so) made held)
+        ∙ ap (λ p. onward p (statements_in x (drop i all)) g w) (sym here)
+
+    pub both_done : h ≡ behind (statement_in x t) (behind (statement_in x s) g) → behind_all (statements_in x (drop (i + 2) all)) h ≡ behind_all (statements_in x (drop i all)) g
+    both_done held =
+        subst (λ (l : List CodePlain). behind_all (statements_in x (drop (i + 2) l)) h ≡ behind_all (statements_in x (drop i l)) g) same
+        (behind_two x w list i s in_list is g h t next_in at held)

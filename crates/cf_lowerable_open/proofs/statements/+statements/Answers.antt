@@ -3,7 +3,7 @@ use Rattle.cf_lower_kept.specs.Opened.{away, comes_to, is_at, only_if}
 use Rattle.cf_lowerable_open.specs.Objects.{behind, behind_all, no_objects}
 use Rattle.cf_lowerable_open.specs.Views.{holding, statements_in, ways_of, where_of}
 use Rattle.cf_lowerable_open.specs.Walk.{all_open, given, in_passed, in_step, in_switch, in_turn, opens, passed}
-use Rattle.cf_lowerable_open.proofs.Advances.{ended_behind, ended_open}
+use Rattle.cf_lowerable_open.proofs.Advances.{away_done, behind_done, both_done, ended_behind, ended_open, one_done, two_done}
 use Rattle.cf_lowerable_open.proofs.Forms.{when_act, when_set, when_if, when_loop, when_switch, when_case, when_default, when_break, when_continue, when_return, when_parts}
 use Rattle.cf_lowerable_open.proofs.Holding.{shared_is}
 use Rattle.cf_lowerable_open.proofs.Opens.{branch_open, comes_round, given_open, loop_open, pass_open, switch_open}
@@ -27,16 +27,35 @@ inner-returns t c =
     (c.in_ok-place.ensures.place ∙ ap (λ o. all_open ss o w c.in_ok-start.start.items) c.new-g.ensures ∙ ap (all_open ss no_objects w) c.in_ok-start.ensures.items)
 
 pub advance-returns-in_ok-place-in-Falls-clause-place : goal.advance-returns-in_ok-place-in-Falls-clause-place
-advance-returns-in_ok-place-in-Falls-clause-place t c = ?
+advance-returns-in_ok-place-in-Falls-clause-place t c =
+    two_done c.args.x.now (ways_of c.args.ways.now) c.as_slice-list.result.now c.args.all.now c.as_slice-list.ensures c.args.next.index c.requires.within c.index-list-index.result c.index-list-index.is (holding c.args.g.now) (holding c.two.new.g) c.index-list-index-then-is_before.result c.index-list-index-then-is_before.is c.rest_of-rest.result.now c.rest_of-rest.ensures c.is_before.result c.is_before.ensures c.if-is_before.true
+    (where_of c.in_ok-place-in-Falls.place) (where_of c.args.next.place) c.in-Falls.here.items (ap where_of c.in-Falls.is) c.in_ok-place-in-Falls.ensures.place c.in_ok-place-in-Falls.ensures.held
+
+pub advance-returns-in_ok-place-in-Falls-clause-held : goal.advance-returns-in_ok-place-in-Falls-clause-held
+advance-returns-in_ok-place-in-Falls-clause-held t c =
+    both_done c.args.x.now (ways_of c.args.ways.now) c.as_slice-list.result.now c.args.all.now c.as_slice-list.ensures c.args.next.index c.requires.within c.index-list-index.result c.index-list-index.is (holding c.args.g.now) (holding c.two.new.g) c.index-list-index-then-is_before.result c.index-list-index-then-is_before.is c.rest_of-rest.result.now c.rest_of-rest.ensures c.is_before.result c.is_before.ensures c.if-is_before.true c.in_ok-place-in-Falls.ensures.held
 
 pub advance-returns-in_ok-place-in-Falls-2-clause-place : goal.advance-returns-in_ok-place-in-Falls-2-clause-place
-advance-returns-in_ok-place-in-Falls-2-clause-place t c = ?
+advance-returns-in_ok-place-in-Falls-2-clause-place t c =
+    one_done c.args.x.now (ways_of c.args.ways.now) c.as_slice-list.result.now c.args.all.now c.as_slice-list.ensures c.args.next.index c.requires.within c.index-list-index.result c.index-list-index.is (holding c.args.g.now) (holding c.one.new.g) c.rest_of-rest.result.now (where_of c.in_ok-place-in-Falls-2.place) (where_of c.args.next.place) c.in-Falls.here.items c.is_before.result
+    c.rest_of-rest.ensures c.is_before.ensures c.if-is_before.false (ap where_of c.in-Falls.is) c.in_ok-place-in-Falls-2.ensures.place c.in_ok-place-in-Falls-2.ensures.held
+
+pub advance-returns-in_ok-place-in-Falls-2-clause-held : goal.advance-returns-in_ok-place-in-Falls-2-clause-held
+advance-returns-in_ok-place-in-Falls-2-clause-held t c =
+    behind_done c.args.x.now (ways_of c.args.ways.now) c.as_slice-list.result.now c.args.all.now c.as_slice-list.ensures c.args.next.index c.requires.within c.index-list-index.result c.index-list-index.is (holding c.args.g.now) (holding c.one.new.g) c.in_ok-place-in-Falls-2.ensures.held
 
 pub advance-returns-in_ok-go_behind-in-Away-clause-place : goal.advance-returns-in_ok-go_behind-in-Away-clause-place
-advance-returns-in_ok-go_behind-in-Away-clause-place t c = ?
+advance-returns-in_ok-go_behind-in-Away-clause-place t c =
+    away_done c.args.x.now (ways_of c.args.ways.now) c.as_slice-list.result.now c.args.all.now c.as_slice-list.ensures c.args.next.index c.requires.within c.index-list-index.result c.index-list-index.is (holding c.args.g.now) (holding c.go_behind.new.g) (where_of c.in_ok-place-in-Away.place) (where_of c.args.next.place) (ap where_of c.in-Away.is) c.in_ok-place-in-Away.ensures
+    c.in_ok-go_behind-in-Away.ensures
+
+pub advance-returns-in_ok-go_behind-in-Away-clause-held : goal.advance-returns-in_ok-go_behind-in-Away-clause-held
+advance-returns-in_ok-go_behind-in-Away-clause-held t c =
+    behind_done c.args.x.now (ways_of c.args.ways.now) c.as_slice-list.result.now c.args.all.now c.as_slice-list.ensures c.args.next.index c.requires.within c.index-list-index.result c.index-list-index.is (holding c.args.g.now) (holding c.go_behind.new.g) c.in_ok-go_behind-in-Away.ensures
 
 pub advance-returns-in_ok-go_behind-in-Wrong-clause-held : goal.advance-returns-in_ok-go_behind-in-Wrong-clause-held
-advance-returns-in_ok-go_behind-in-Wrong-clause-held t c = ?
+advance-returns-in_ok-go_behind-in-Wrong-clause-held t c =
+    behind_done c.args.x.now (ways_of c.args.ways.now) c.as_slice-list.result.now c.args.all.now c.as_slice-list.ensures c.args.next.index c.requires.within c.index-list-index.result c.index-list-index.is (holding c.args.g.now) (holding c.go_behind-in-Wrong.new.g) c.in_ok-go_behind-in-Wrong.ensures
 
 pub pass-returns-in-Act : goal.pass-returns-in-Act
 pass-returns-in-Act t c = when_act c.args.x.now c.args.t.now (λ p. passed p (statements_in c.args.x.now c.args.before.now) (ways_of c.args.ways.now) c.args.here.items) _ _ c.in-Act.is refl
