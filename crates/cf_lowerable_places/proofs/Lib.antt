@@ -1,0 +1,13 @@
+pub mod KindSets
+pub mod Holding
+pub mod Giving
+pub mod Layers
+pub mod LocalTypes
+pub mod Passing
+pub mod OperandLaws
+pub mod ScalarLaws
+pub mod LeafLaws
+pub mod LibraryLaws
+pub mod CallLaws
+pub mod LabelForms
+pub mod LabelLaws
