@@ -11,3 +11,8 @@ pub mod LibraryLaws
 pub mod CallLaws
 pub mod LabelForms
 pub mod LabelLaws
+pub mod StatementLaws
+pub mod Bounded
+pub mod FunctionForms
+pub mod UnitLaws
+mod Rows
