@@ -11,9 +11,8 @@ use Rattle.cf_lower_held.proofs.Forgotten.{drop_item}
 use Rattle.cf_lower_place.specs.Leaf.{is_integer}
 use Rattle.cf_lower_place.specs.InPlace.{in_place, all_in_place, items_in_place, is_number, switches}
 use Rattle.cf_lowerable_places.specs.declared.labels.Label.{Label}
-use Rattle.cf_lowerable_places.specs.declared.labels.Label.TheVariants as label
 use Rattle.cf_lowerable_places.specs.Fits.{fits_in}
-use Rattle.cf_lowerable_places.specs.Labels.{label_in}
+use Rattle.cf_lowerable_places.specs.Labels.{label_in, is_label}
 
 pub number_at : (k y : Kept) (b : Bool) → b ≡ is_integer k → k ≡ y → b ≡ is_number y
 number_at k y b e at = e ∙ same k ∙ ap is_number at
@@ -107,6 +106,10 @@ module _ (x : Scene) where
       → h ≡ after (locals_in x) (loop (statements_in x ss) (statements_in x ts)) g
   loop_behind ss ts g f h first second = second ∙ ap (λ d. untouched (locals_in x) d (statements_in x ts)) first
 
+  pub turns_placed : (first second all : Bool) (ss ts : List CodePlain) (h : Keeping) → first ≡ Placed true true ss h → second ≡ Placed true false ts h → all ≡ (first && second)
+      → all ≡ (Placed true true ss h && Placed true false ts h)
+  turns_placed first second all ss ts h yes no so = so ∙ ap (λ d. d && second) yes ∙ ap (λ d. Placed true true ss h && d) no
+
   pub loop_placed : (b c good : Bool) (ss ts : List CodePlain) (g h : Keeping) → h ≡ after (locals_in x) (loop (statements_in x ss) (statements_in x ts)) g
       → good ≡ (Placed true true ss h && Placed true false ts h) → good ≡ in_place (locals_in x) (fits_in x) b c (loop (statements_in x ss) (statements_in x ts)) g
   loop_placed b c good ss ts g h behind placed = placed ∙ ap (λ d. Placed true true ss d && Placed true false ts d) behind
@@ -121,25 +124,26 @@ module _ (x : Scene) where
 
   -- ---- in a switch
 
-  label_form : (c : Bool) (p : Plain) (l : Label) (rest : Plains) (k g : Keeping) → l ≡ label_in p → (l ≡ label.No → ⊥)
+  label_form : (c : Bool) (p : Plain) (rest : Plains) (k g : Keeping) → is_label (label_in p) ≡ true
       → items_in_place (locals_in x) (fits_in x) c rest k k ≡ items_in_place (locals_in x) (fits_in x) c (more p rest) k g
-  label_form c (case_label z) l rest k g e no = refl
-  label_form c default_label l rest k g e no = refl
-  label_form c (act a) l rest k g e no = absurd (no e)
-  label_form c (set r a) l rest k g e no = absurd (no e)
-  label_form c (branch r ss ts) l rest k g e no = absurd (no e)
-  label_form c (loop ss ts) l rest k g e no = absurd (no e)
-  label_form c (switch r ss) l rest k g e no = absurd (no e)
-  label_form c leave l rest k g e no = absurd (no e)
-  label_form c continue l rest k g e no = absurd (no e)
-  label_form c (give r) l rest k g e no = absurd (no e)
-  label_form c (parts ps) l rest k g e no = absurd (no e)
+  label_form c (case_label z) rest k g e = refl
+  label_form c default_label rest k g e = refl
+  label_form c (act a) rest k g e = cc
+  label_form c (set r a) rest k g e = cc
+  label_form c (branch r ss ts) rest k g e = cc
+  label_form c (loop ss ts) rest k g e = cc
+  label_form c (switch r ss) rest k g e = cc
+  label_form c leave rest k g e = cc
+  label_form c continue rest k g e = cc
+  label_form c (give r) rest k g e = cc
+  label_form c (parts ps) rest k g e = cc
 
-  pub label_turn : (c : Bool) (s : CodePlain) (l : Label) (rest : Plains) (k g h : Keeping) → l ≡ label_in (statement_in x s) → (l ≡ label.No → ⊥) → h ≡ k
+  pub label_turn : (c b : Bool) (s : CodePlain) (l : Label) (rest : Plains) (k g h : Keeping) → l ≡ label_in (statement_in x s) → b ≡ is_label l → b ≡ true → h ≡ k
       → (true && items_in_place (locals_in x) (fits_in x) c rest k h) ≡ items_in_place (locals_in x) (fits_in x) c (more (statement_in x s) rest) k g
-  label_turn c s l rest k g h at no same = ap (items_in_place (locals_in x) (fits_in x) c rest k) same ∙ label_form c (statement_in x s) l rest k g at no
+  label_turn c b s l rest k g h at is yes same =
+      ap (items_in_place (locals_in x) (fits_in x) c rest k) same ∙ label_form c (statement_in x s) rest k g (ap is_label (sym at) ∙ sym is ∙ yes)
 
-  other_form : (c : Bool) (p : Plain) (rest : Plains) (k g : Keeping) → label.No ≡ label_in p
+  other_form : (c : Bool) (p : Plain) (rest : Plains) (k g : Keeping) → is_label (label_in p) ≡ false
       → (in_place (locals_in x) (fits_in x) true c p g && items_in_place (locals_in x) (fits_in x) c rest k (after (locals_in x) p g))
       ≡ items_in_place (locals_in x) (fits_in x) c (more p rest) k g
   other_form c (case_label z) rest k g e = cc
@@ -154,10 +158,10 @@ module _ (x : Scene) where
   other_form c (give r) rest k g e = refl
   other_form c (parts ps) rest k g e = refl
 
-  pub statement_turn : (c good : Bool) (s : CodePlain) (l : Label) (rest : Plains) (k g h : Keeping) → l ≡ label_in (statement_in x s) → l ≡ label.No
+  pub statement_turn : (c good b : Bool) (s : CodePlain) (l : Label) (rest : Plains) (k g h : Keeping) → l ≡ label_in (statement_in x s) → b ≡ is_label l → b ≡ false
       → good ≡ in_place (locals_in x) (fits_in x) true c (statement_in x s) g → h ≡ after (locals_in x) (statement_in x s) g
       → (good && items_in_place (locals_in x) (fits_in x) c rest k h) ≡ items_in_place (locals_in x) (fits_in x) c (more (statement_in x s) rest) k g
-  statement_turn c good s l rest k g h at no placed behind =
+  statement_turn c good b s l rest k g h at is no placed behind =
       ap (λ d. d && items_in_place (locals_in x) (fits_in x) c rest k h) placed
       ∙ ap (λ f. in_place (locals_in x) (fits_in x) true c (statement_in x s) g && items_in_place (locals_in x) (fits_in x) c rest k f) behind
-      ∙ other_form c (statement_in x s) rest k g (sym no ∙ at)
+      ∙ other_form c (statement_in x s) rest k g (ap is_label (sym at) ∙ sym is ∙ no)

@@ -11,27 +11,28 @@ use Rattle.cf_plain.specs.View.{Unit, file_of, function_of, tables_of}
 use Rattle.cf_plain.specs.declared.unit.PlainFn.{PlainFn}
 use Rattle.cf_types.specs.Table.{Table}
 
-module _ (tables : Tables) (all : List PlainFn) (i : ℕ) where
+module _ (tables : Tables) (all : List PlainFn) where
   -- those from a number on
   abbrev pub From : ℕ → Bool
   From n = list_all (function_in_place (classes_of tables)) (map (function_of tables) (drop n all))
 
-  module _ (f : PlainFn) (good whole : Bool) (within : i < length all) (is : f ≡ get_or all i f) (placed : good ≡ function_in_place (classes_of tables) (function_of tables f))
-      (so_far : From i ≡ whole) where
-    next : whole ≡ (good && From (i + 1))
-    next =
-        sym so_far ∙ ap (λ l. list_all (function_in_place (classes_of tables)) (map (function_of tables) l)) (drop_item all i f within is)
-        ∙ ap (λ b. b && From (i + 1)) (sym placed)
+  module _ (i : ℕ) where
+    module _ (f : PlainFn) (good whole : Bool) (within : i < length all) (is : f ≡ get_or all i f) (placed : good ≡ function_in_place (classes_of tables) (function_of tables f))
+        (so_far : From i ≡ whole) where
+      next : whole ≡ (good && From (i + 1))
+      next =
+          sym so_far ∙ ap (λ l. list_all (function_in_place (classes_of tables)) (map (function_of tables) l)) (drop_item all i f within is)
+          ∙ ap (λ b. b && From (i + 1)) (sym placed)
 
-    pub function_more : good ≡ true → From (i + 1) ≡ whole
-    function_more yes = sym (next ∙ ap (λ b. b && From (i + 1)) yes)
+      pub function_more : good ≡ true → From (i + 1) ≡ whole
+      function_more yes = sym (next ∙ ap (λ b. b && From (i + 1)) yes)
 
-    pub function_fails : good ≡ false → false ≡ whole
-    function_fails no = sym (next ∙ ap (λ b. b && From (i + 1)) no)
+      pub function_fails : good ≡ false → false ≡ whole
+      function_fails no = sym (next ∙ ap (λ b. b && From (i + 1)) no)
 
-  pub functions_ended : (whole : Bool) → length all ≤ i → From i ≡ whole → true ≡ whole
-  functions_ended whole past so_far =
-      sym (at_drop_all (λ (l : List PlainFn). list_all (function_in_place (classes_of tables)) (map (function_of tables) l)) all i past) ∙ so_far
+    pub functions_ended : (whole : Bool) → length all ≤ i → From i ≡ whole → true ≡ whole
+    functions_ended whole past so_far =
+        sym (at_drop_all (λ (l : List PlainFn). list_all (function_in_place (classes_of tables)) (map (function_of tables) l)) all i past) ∙ so_far
 
 -- of a unit
 pub unit_placed : (unit : Unit) (tables : Tables) (types : Table) (classes : ClassTable) (functions : List PlainFn) (good : Bool) → functions ≡ unit.functions → types ≡ unit.types

@@ -13,6 +13,10 @@ label_in (case_label z) = label.Case z
 label_in default_label = label.Default
 label_in s = label.No
 
+abbrev pub is_label : Label → Bool
+is_label label.No = false
+is_label l = true
+
 abbrev pub same_label : Label → Label → Bool
 same_label (label.Case z) (label.Case y) = int_le y z && int_le z y
 same_label label.Default label.Default = true

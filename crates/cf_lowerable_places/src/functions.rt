@@ -99,7 +99,8 @@ pub fn is_in_place(alloc: Global, tables: &Tables<'_>, f: &PlainFn) -> Result<bo
     ensures { IfOk result (λ good. good ≡ named.function_in_place (classes_of tables.now) (view.function_of tables.now f.now)) }
 {
     let all = actions_of(alloc, tables, &f.body)?;
-    let x = scene(alloc, tables, f, all.as_slice())?;
+    let actions = all.as_slice();
+    let x = scene(alloc, tables, f, actions)?;
     let mut cs = Contents::new(alloc);
     let good = statements(&x, &f.body, false, false, &mut cs)?;
     Ok(good)

@@ -44,6 +44,16 @@ pub fn label_of(s: &Plain) -> Label
     }
 }
 
+/// Whether it is one.
+pub fn is_label(label: Label) -> bool
+    ensures { result ≡ spec.is_label label }
+{
+    match label {
+        Label::Case(_) | Label::Default => true,
+        Label::No => false,
+    }
+}
+
 fn is_same_number(a: i64, b: i64) -> bool
     ensures { result ≡ (int_le b a && int_le a b) }
 {

@@ -1,6 +1,6 @@
 //! The statements of a function.
 
-ghost use Rattle.std.specs.Prelude.{◌≡◌, ◌&&◌, Bool, true, false, IfOk, OnOk};
+ghost use Rattle.std.specs.Prelude.{◌≡◌, ◌&&◌, Bool, IfOk, OnOk};
 ghost use Rattle.cf_lower.specs.Kept as definition;
 ghost use Rattle.cf_lower_held.specs.Scenes.{action_in, locals_in, statement_in, statements_in};
 ghost use Rattle.cf_lower_place.specs.InPlace as in_place;
@@ -10,7 +10,7 @@ ghost use Rattle.cf_lowerable_places.specs.Contents.{knowing};
 ghost use Rattle.cf_lowerable_places.specs.Fits.{fits_in};
 
 use crate::contents::Contents;
-use crate::labels::{Label, label_of, labels_differ, switches};
+use crate::labels::{is_label, label_of, labels_differ, switches};
 use crate::leaves::{may_do, may_give, may_set};
 use crate::operands::is_integer;
 use crate::setting::{held, set};
@@ -78,28 +78,6 @@ fn sets(x: &Scene<'_>, register: u32, action: &Action, cs: &mut Contents) -> Res
     Ok(good)
 }
 
-/// The same of a branch by the number in a register (6.4.1).
-#[cycle(statements)]
-fn branch(
-    x: &Scene<'_>,
-    register: u32,
-    yes: &Items<Plain>,
-    no: &Items<Plain>,
-    breaks: bool,
-    continues: bool,
-    cs: &mut Contents,
-) -> Result<bool, Memory>
-    ensures placed { IfOk result (λ good. good ≡ in_place.in_place (locals_in x.now) (fits_in x.now) breaks continues (plain.branch register (statements_in x.now yes.now) (statements_in x.now no.now)) (knowing x.now cs.old)) }
-    ensures held { OnOk result (knowing x.now cs.new ≡ definition.after (locals_in x.now) (plain.branch register (statements_in x.now yes.now) (statements_in x.now no.now)) (knowing x.now cs.old)) }
-{
-    let tested = is_number(x, register, cs);
-    let mut other = cs.copied(x.alloc)?;
-    let first = statements(x, yes, breaks, continues, cs)?;
-    let second = statements(x, no, breaks, continues, &mut other)?;
-    cs.meet(x.tables, &other)?;
-    Ok(all_three(tested, first, second))
-}
-
 /// Whether a register holds a number.
 #[tactic(auto, using(crate::proofs::StatementLaws::number_at))]
 fn is_number(x: &Scene<'_>, register: u32, cs: &Contents) -> bool
@@ -108,23 +86,12 @@ fn is_number(x: &Scene<'_>, register: u32, cs: &Contents) -> bool
     is_integer(&held(x, cs, register))
 }
 
-/// The same of a loop (6.5).
-#[cycle(statements)]
-fn turns(
-    x: &Scene<'_>,
-    body: &Items<Plain>,
-    next: &Items<Plain>,
-    cs: &mut Contents,
-) -> Result<bool, Memory>
-    ensures placed { IfOk result (λ good. good ≡ (in_place.all_in_place (locals_in x.now) (fits_in x.now) true true (statements_in x.now body.now) (knowing x.now cs.new)
-        && in_place.all_in_place (locals_in x.now) (fits_in x.now) true false (statements_in x.now next.now) (knowing x.now cs.new))) }
-    ensures held { OnOk result (knowing x.now cs.new ≡ definition.after (locals_in x.now) (plain.loop (statements_in x.now body.now) (statements_in x.now next.now)) (knowing x.now cs.old)) }
+/// The registers that a loop sets hold nothing any more.
+fn forget_loop(x: &Scene<'_>, body: &Items<Plain>, next: &Items<Plain>, cs: &mut Contents)
+    ensures { knowing x.now cs.new ≡ definition.after (locals_in x.now) (plain.loop (statements_in x.now body.now) (statements_in x.now next.now)) (knowing x.now cs.old) }
 {
     cs.forget(x, body);
     cs.forget(x, next);
-    let first = apart(x, body, true, true, cs)?;
-    let second = apart(x, next, true, false, cs)?;
-    Ok(both(first, second))
 }
 
 /// A label or statement of a switch, where the registers hold this at each label.
@@ -139,15 +106,12 @@ fn item(
     ensures { (rest : Plains) → IfOk result (λ good. (good && in_place.items_in_place (locals_in x.now) (fits_in x.now) continues rest (knowing x.now cs.now) (knowing x.now running.new))
         ≡ in_place.items_in_place (locals_in x.now) (fits_in x.now) continues (plain.more (statement_in x.now s.now) rest) (knowing x.now cs.now) (knowing x.now running.old)) }
 {
-    match label_of(s) {
-        Label::Case(_) | Label::Default => {
-            *running = cs.copied(x.alloc)?;
-            Ok(true)
-        }
-        Label::No => {
-            let good = statement(x, s, true, continues, running)?;
-            Ok(good)
-        }
+    if is_label(label_of(s)) {
+        *running = cs.copied(x.alloc)?;
+        Ok(true)
+    } else {
+        let good = statement(x, s, true, continues, running)?;
+        Ok(good)
     }
 }
 
@@ -211,12 +175,18 @@ fn statement(
             Ok(good)
         }
         Plain::If { register, yes, no } => {
-            let good = branch(x, *register, yes, no, breaks, continues, cs)?;
-            Ok(good)
+            let tested = is_number(x, *register, cs);
+            let mut other = cs.copied(x.alloc)?;
+            let first = statements(x, yes, breaks, continues, cs)?;
+            let second = statements(x, no, breaks, continues, &mut other)?;
+            cs.meet(x.tables, &other)?;
+            Ok(all_three(tested, first, second))
         }
         Plain::Loop { body, next } => {
-            let good = turns(x, body, next, cs)?;
-            Ok(good)
+            forget_loop(x, body, next, cs);
+            let first = apart(x, body, true, true, cs)?;
+            let second = apart(x, next, true, false, cs)?;
+            Ok(both(first, second))
         }
         Plain::Switch { register, body } => {
             let good = switched(x, *register, body, continues, cs)?;

@@ -11,6 +11,6 @@ returns c =
     let tables = c.args.tables.now in
     let f = c.args.f.now in
     let x = c.in_ok-x.x in
-    let does = ap (told tables) c.as_slice.ensures.value ∙ c.in_ok-all.ensures in
+    let does = ap (told tables) c.as_slice-actions.ensures.value ∙ c.in_ok-all.ensures in
     function_placed tables f x c.in_ok-good.good (knowing x c.new-cs.result) c.in_ok-x.ensures.at c.in_ok-x.ensures.given c.in_ok-x.ensures.types
     (c.in_ok-x.ensures.arguments ∙ ap (flat_map arguments_at) does) (c.new-cs.ensures x.tables.now) c.in_ok-good.ensures.placed
