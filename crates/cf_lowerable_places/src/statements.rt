@@ -87,6 +87,7 @@ fn is_number(x: &Scene<'_>, register: u32, cs: &Contents) -> bool
 }
 
 /// The registers that a loop sets hold nothing any more.
+#[tactic(auto, using(crate::proofs::StatementLaws::loop_behind))]
 fn forget_loop(x: &Scene<'_>, body: &Items<Plain>, next: &Items<Plain>, cs: &mut Contents)
     ensures { knowing x.now cs.new ≡ definition.after (locals_in x.now) (plain.loop (statements_in x.now body.now) (statements_in x.now next.now)) (knowing x.now cs.old) }
 {
