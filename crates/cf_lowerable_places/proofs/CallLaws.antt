@@ -19,6 +19,14 @@ use Rattle.cf_lowerable_places.specs.Fits.{named_fits, pointed_fits, set_fits}
 use Rattle.cf_lowerable_places.specs.Library.{library_named, as_many, gives_as, library_call_fits, may_lead, may_lead_to_each, type_of_library}
 use Rattle.cf_lowerable_places.proofs.LibraryLaws.{by_names}
 
+-- ---- results
+
+pub int_at : (o s : Option Sort) (b : Bool) → b ≡ is_an_int o → o ≡ s → b ≡ is_an_int s
+int_at o s b e is = e ∙ ap is_an_int is
+
+pub none_at : (o s : Option Sort) (b : Bool) → b ≡ is_no_sort o → o ≡ s → b ≡ is_no_sort s
+none_at o s b e is = e ∙ ap is_no_sort is
+
 -- ---- two tests, one after the other
 
 pub both_so : (a b c d : Bool) → c ≡ a → c ≡ true → d ≡ b → d ≡ (a && b)

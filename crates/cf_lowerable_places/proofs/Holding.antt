@@ -20,6 +20,9 @@ use Rattle.cf_lowerable_places.specs.Contents.{has_kind, both_kinds, no_kind, re
 
 -- ---- the kinds at an index
 
+pub none_at : (xs : List Kinds) (i : ℕ) (f : Kind → Bool) → slice_get xs i ≡ None → f ≡ no_kind → f ≡ kinds_at xs i
+none_at xs i f none e = e ∙ sym (ap kinds_of none)
+
 abbrev Longer : List Kinds → Kinds → ℕ → Type 0
 Longer xs ks q = kinds_at (xs ++ ks ∷ []) q ≡ kinds_at xs q
 

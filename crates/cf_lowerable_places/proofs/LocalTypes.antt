@@ -1,7 +1,8 @@
 -- The locals of a function by their types, if they are there.
-use Rattle.std.proofs.Common.{◌≡◌, ℕ, zero, suc, Bool, true, false, ◌&&◌, not, nat_lt, List, [], ◌∷◌, length, map, Option, Some, None, slice_get, refl, sym, ap, subst, ◌∙◌, arith}
+use Rattle.std.proofs.Common.{◌≡◌, ℕ, zero, suc, ◌<◌, ◌≤◌, Bool, true, false, ◌&&◌, not, nat_lt, List, [], ◌∷◌, length, map, Option, Some, None, slice_get, refl, sym, ap, subst, ◌∙◌, arith}
 use Rattle.std.specs.Prelude.{is_some}
 use Rattle.std.proofs.lemmas.Bool.Decides.{nat_tests}
+use Rattle.std.proofs.lemmas.List.{length-map}
 use Rattle.cf_core.specs.FromTypes.{Tables, type_of}
 use Rattle.cf_core.specs.Places.{is_reference, is_scalar}
 use Rattle.cf_core.specs.Types.{SourceType, void, without_const, type_eq}
@@ -15,15 +16,27 @@ use Rattle.cf_lower_place.specs.Leaf.{const_on_none, is_object_local, is_referen
 use Rattle.cf_lower_types.specs.Bare.{Refers, classes_of}
 use Rattle.cf_lowerable_places.specs.Fits.{view_in}
 
+below : {A : Type 0} (xs : List A) (i : ℕ) (x : A) → slice_get xs i ≡ Some x → i < length xs
+below [] i x e = cc
+below (y ∷ ys) zero x e = omega arith
+below (y ∷ ys) (suc i) x e = omega (arith, below ys i x e)
+
+beyond : {A : Type 0} (xs : List A) (i : ℕ) → slice_get xs i ≡ None → length xs ≤ i
+beyond [] i e = omega arith
+beyond (y ∷ ys) zero e = cc
+beyond (y ∷ ys) (suc i) e = omega (arith, beyond ys i e)
+
 within : {A B : Type 0} (f : A → B) (xs : List A) (i : ℕ) (x : A) → slice_get xs i ≡ Some x → nat_lt i (length (map f xs)) ≡ true
-within f [] i x e = cc
-within f (y ∷ ys) zero x e = refl
-within f (y ∷ ys) (suc i) x e = within f ys i x e
+within f xs i x e = by (length (map f xs)) (length-map xs f) (below xs i x e)
+  where
+    by : (n : ℕ) → n ≡ length xs → i < length xs → nat_lt i n ≡ true
+    by n same lt = grind (arith, nat_tests)
 
 past : {A B : Type 0} (f : A → B) (xs : List A) (i : ℕ) → slice_get xs i ≡ None → nat_lt i (length (map f xs)) ≡ false
-past f [] i e = refl
-past f (y ∷ ys) zero e = cc
-past f (y ∷ ys) (suc i) e = past f ys i e
+past f xs i e = by (length (map f xs)) (length-map xs f) (beyond xs i e)
+  where
+    by : (n : ℕ) → n ≡ length xs → length xs ≤ i → nat_lt i n ≡ false
+    by n same le = grind (arith, nat_tests)
 
 found : (f : ℕ → SourceType) (xs : List ℕ) (i x : ℕ) → slice_get xs i ≡ Some x → type_or_void (slice_get (map f xs) i) ≡ f x
 found f [] i x e = cc

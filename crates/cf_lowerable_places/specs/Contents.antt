@@ -1,7 +1,9 @@
 -- What registers hold, with the kinds that have an integer, in the code's types.
-use Rattle.std.specs.Prelude.{ℕ, Bool, false, ◌&&◌, List, Option, Some, None, slice_get}
+use Rattle.std.specs.Prelude.{ℕ, Bool, true, false, ◌&&◌, List, Option, Some, None, slice_get}
 use Rattle.cf_base.specs.declared.kind.Kind.{Kind}
 use Rattle.cf_base.specs.declared.kind.Kind.TheVariants.{Char, SChar, UChar, Short, UShort, Int, UInt, Long, ULong}
+use Rattle.cf_base.specs.declared.arith.Arith.{Arith}
+use Rattle.cf_base.specs.declared.arith.Arith.TheVariants as op
 use Rattle.cf_core.specs.FromTypes.{Tables, type_of}
 use Rattle.cf_lower_layout.specs.Sorts.{address, code}
 use Rattle.cf_lower.specs.Kept.{Kept, unknown, integer_of, holds, argument, Keeping}
@@ -46,6 +48,16 @@ known tables (content.Number ks) = integer_of (has_kind ks)
 known tables (content.Place p) = holds (address (type_in tables p))
 known tables (content.Code t) = holds (code (bare tables t))
 known tables (content.Argument i t) = argument i (type_of tables t)
+
+-- whether an operator compares
+abbrev pub compares : Arith → Bool
+compares op.Less = true
+compares op.Greater = true
+compares op.LessEqual = true
+compares op.GreaterEqual = true
+compares op.Equal = true
+compares op.NotEqual = true
+compares o = false
 
 -- ---- all registers
 

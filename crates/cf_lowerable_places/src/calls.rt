@@ -3,6 +3,7 @@
 ghost use Rattle.std.specs.Prelude.{◌≡◌, ◌&&◌, Some, IfOk};
 ghost use Rattle.std.specs.Option.{option_map};
 ghost use Rattle.cf_core.specs.FromTypes.{Tables as TablesOf, type_of};
+ghost use Rattle.cf_core.specs.Types as types;
 ghost use Rattle.cf_lower.specs.Kept.{Keeping};
 ghost use Rattle.cf_lower_held.specs.Scenes.{locals_in};
 ghost use Rattle.cf_lower_layout.specs.Sorts as sorts;
@@ -62,15 +63,30 @@ fn is_no_sort(scalar: &Option<Scalar>) -> bool
     }
 }
 
+/// Whether functions of the type give an int.
+#[tactic(auto, using(crate::proofs::CallLaws::int_at))]
+fn gives_int(tables: &Tables<'_>, ty: TyId) -> bool
+    ensures { result ≡ calls.is_an_int (sorts.sort_of (types.result (type_of tables.now ty))) }
+{
+    is_an_int(&result_sort(tables, ty))
+}
+
+/// Whether they give no scalar.
+#[tactic(auto, using(crate::proofs::CallLaws::none_at))]
+fn gives_nothing(tables: &Tables<'_>, ty: TyId) -> bool
+    ensures { result ≡ calls.is_no_sort (sorts.sort_of (types.result (type_of tables.now ty))) }
+{
+    is_no_sort(&result_sort(tables, ty))
+}
+
 /// Whether functions of the type give what the library's function does.
 fn gives_as(tables: &Tables<'_>, library: Library, ty: TyId) -> bool
     ensures { result ≡ spec.gives_as library (type_of tables.now ty) }
 {
-    let scalar = result_sort(tables, ty);
     match library {
-        Library::Putchar => is_an_int(&scalar),
-        Library::Exit => is_no_sort(&scalar),
-        Library::Getchar => is_an_int(&scalar),
+        Library::Putchar => gives_int(tables, ty),
+        Library::Exit => gives_nothing(tables, ty),
+        Library::Getchar => gives_int(tables, ty),
     }
 }
 

@@ -23,6 +23,7 @@ pub struct Contents {
 }
 
 /// The types of the integer at an index; none behind the last.
+#[tactic(auto, using(crate::proofs::Holding::none_at))]
 fn at(all: &[Kinds], index: usize) -> Kinds
     ensures { has_kind result ≡ kinds_at all.now index }
 {
@@ -128,7 +129,6 @@ impl Contents {
     }
 
     /// The registers that statements set hold nothing any more.
-    #[tactic(auto, using(crate::proofs::Holding::forgotten))]
     pub fn forget(&mut self, x: &Scene<'_>, all: &Items<Plain>)
         ensures { knowing x.now self.new ≡ definition.untouched (locals_in x.now) (knowing x.now self.old) (statements_in x.now all.now) }
     {

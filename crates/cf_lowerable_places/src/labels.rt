@@ -90,7 +90,6 @@ fn label_fits(kind: Kind, label: Label) -> bool
 }
 
 /// Whether each label is of this kind (6.4.2).
-#[tactic(auto, using(crate::proofs::LabelLaws::fit_ended, crate::proofs::LabelLaws::fit_more, crate::proofs::LabelLaws::fit_stops))]
 fn labels_fit(kind: Kind, all: &Items<Plain>) -> bool
     ensures { (x : SceneOf) → result ≡ in_place.labels_fit kind (statements_in x all.now) }
 {
@@ -103,7 +102,6 @@ fn labels_fit(kind: Kind, all: &Items<Plain>) -> bool
 }
 
 /// Whether no statement has the label.
-#[tactic(auto, using(crate::proofs::LabelLaws::lacks_ended, crate::proofs::LabelLaws::lacks_more, crate::proofs::LabelLaws::lacks_stops))]
 fn lacks(label: Label, all: &[Plain]) -> bool
     ensures { (x : SceneOf) → result ≡ spec.lacks label (statements_in x all.now) }
 {

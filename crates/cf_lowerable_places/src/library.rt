@@ -4,6 +4,7 @@ ghost use Rattle.std.specs.Prelude.{◌≡◌};
 ghost use Rattle.cf_core.specs.FromTypes.{type_of};
 ghost use Rattle.cf_core.specs.Types as types;
 ghost use Rattle.cf_lower_place.specs.Named as named;
+ghost use Rattle.cf_lower_same.specs.Literals as literals;
 ghost use Rattle.cf_lower_types.specs.Bare.{bare};
 ghost use Rattle.cf_lowerable_places.specs.Library as spec;
 
@@ -46,22 +47,21 @@ pub fn takes_as_many(library: Library, arguments: &[u32]) -> bool
     }
 }
 
+fn is_void_form(form: &Form) -> bool
+    ensures { result ≡ literals.is_void form.now }
+{
+    match form {
+        Form::Void => true,
+        _ => false,
+    }
+}
+
 /// Whether the type is `void`, but for const.
+#[tactic(auto, using(cf_lower_same::proofs::LiteralTypes::void_first))]
 fn is_void_type(tables: &Tables<'_>, id: TyId) -> bool
     ensures { result ≡ types.type_eq types.void (bare tables.now id) }
 {
-    match form_of(tables, id) {
-        Form::Void => true,
-        Form::Integer(_)
-        | Form::Enumeration(_)
-        | Form::Class(_)
-        | Form::Pointer(_)
-        | Form::Reference(_)
-        | Form::Array(_, _)
-        | Form::Function(_)
-        | Form::DataMember(_, _)
-        | Form::FunctionMember(_, _) => false,
-    }
+    is_void_form(&form_of(tables, id))
 }
 
 /// Whether a function takes one int alone.

@@ -7,6 +7,7 @@ ghost use Rattle.cf_core.specs.View.{change_of};
 ghost use Rattle.cf_lower.specs.Kept as definition;
 ghost use Rattle.cf_lower_held.specs.Scenes.{action_in, locals_in};
 ghost use Rattle.cf_lower_types.specs.Bare.{type_in};
+ghost use Rattle.cf_lowerable_places.specs.Contents as spec;
 ghost use Rattle.cf_lowerable_places.specs.Contents.{has_kind, known, knowing, restored};
 
 use crate::content::{Content, kinds_in, kinds_of_scalar};
@@ -39,9 +40,9 @@ fn read_kinds(tables: &Tables<'_>, place: &Content) -> Kinds
     }
 }
 
-/// Those of what an operator gives: a comparison gives 0 or 1.
-fn operated_kinds(op: Arith, kind: Kind) -> Kinds
-    ensures { restored (definition.result_kept op kind) (has_kind result) ≡ definition.result_kept op kind }
+/// Whether an operator compares (5.9, 5.10).
+fn compares(op: Arith) -> bool
+    ensures { result ≡ spec.compares op }
 {
     match op {
         Arith::Less
@@ -49,7 +50,7 @@ fn operated_kinds(op: Arith, kind: Kind) -> Kinds
         | Arith::LessEqual
         | Arith::GreaterEqual
         | Arith::Equal
-        | Arith::NotEqual => all_kinds(),
+        | Arith::NotEqual => true,
         Arith::Multiply
         | Arith::Divide
         | Arith::Remainder
@@ -59,7 +60,19 @@ fn operated_kinds(op: Arith, kind: Kind) -> Kinds
         | Arith::ShiftRight
         | Arith::And
         | Arith::Xor
-        | Arith::Or => kinds_within(kind),
+        | Arith::Or => false,
+    }
+}
+
+/// Those of what an operator gives: a comparison gives 0 or 1.
+#[tactic(auto, using(crate::proofs::Giving::comparison_fits, crate::proofs::Giving::operator_fits))]
+fn operated_kinds(op: Arith, kind: Kind) -> Kinds
+    ensures { restored (definition.result_kept op kind) (has_kind result) ≡ definition.result_kept op kind }
+{
+    if compares(op) {
+        all_kinds()
+    } else {
+        kinds_within(kind)
     }
 }
 
@@ -73,6 +86,7 @@ fn indexed_kinds(left: &Content, right: &Content) -> Kinds
 }
 
 /// Those of what an operator on pointers gives.
+#[tactic(auto, using(crate::proofs::Giving::difference_fits, crate::proofs::Giving::order_fits))]
 fn pointed_kinds(op: PointerOperator, left: &Content, right: &Content) -> Kinds
     ensures { (tables : TablesOf) → restored (definition.operated_kept op (known tables left.now) (known tables right.now)) (has_kind result) ≡ definition.operated_kept op (known tables left.now) (known tables right.now) }
 {
@@ -80,16 +94,17 @@ fn pointed_kinds(op: PointerOperator, left: &Content, right: &Content) -> Kinds
         PointerOperator::Add => indexed_kinds(left, right),
         PointerOperator::Subtract => kinds_in(left),
         PointerOperator::Difference => kinds_within(Kind::Int),
-        PointerOperator::Less
-        | PointerOperator::Greater
-        | PointerOperator::LessEqual
-        | PointerOperator::GreaterEqual
-        | PointerOperator::Equal
-        | PointerOperator::NotEqual => all_kinds(),
+        PointerOperator::Less => all_kinds(),
+        PointerOperator::Greater => all_kinds(),
+        PointerOperator::LessEqual => all_kinds(),
+        PointerOperator::GreaterEqual => all_kinds(),
+        PointerOperator::Equal => all_kinds(),
+        PointerOperator::NotEqual => all_kinds(),
     }
 }
 
 /// Those of a scalar that is changed.
+#[tactic(auto, using(crate::proofs::Giving::change_fits))]
 fn changed_kinds(change: Change, value: &Content) -> Kinds
     ensures { (tables : TablesOf) → restored (definition.changed_kept (change_of change) (known tables value.now)) (has_kind result) ≡ definition.changed_kept (change_of change) (known tables value.now) }
 {
@@ -108,7 +123,6 @@ fn decayed_kinds(array: &Content) -> Kinds
 }
 
 /// Those of a constant.
-#[tactic(auto, using(crate::proofs::Giving::constant_fits))]
 fn constant_kinds(value: i64) -> Kinds
     ensures { restored (definition.constant_kept value) (has_kind result) ≡ definition.constant_kept value }
 {
