@@ -30,18 +30,18 @@ none_at o s b e is = e ∙ ap is_no_sort is
 -- ---- two tests, one after the other
 
 pub both_so : (a b c d : Bool) → c ≡ a → c ≡ true → d ≡ b → d ≡ (a && b)
-both_so a b c d is yes e = e ∙ ap (λ f. f && b) (sym yes ∙ is)
+both_so a b c d is sure e = e ∙ ap (λ f. f && b) (sym sure ∙ is)
 
 pub first_not : (a b c : Bool) → c ≡ a → c ≡ false → false ≡ (a && b)
-first_not a b c is no = ap (λ f. f && b) (sym no ∙ is)
+first_not a b c is not_so = ap (λ f. f && b) (sym not_so ∙ is)
 
 module _ (locals : Locals) where
   module _ (t : SourceType) (is : List ℕ) where
     pub taken : (b c : Bool) (ts : List SourceType) → b ≡ is_signature t → b ≡ true → c ≡ types_passed locals is ts → ts ≡ parameters t → c ≡ takes_locals locals t is
-    taken b c ts signed yes passed same = passed ∙ ap (types_passed locals is) same ∙ ap (λ f. f && types_passed locals is (parameters t)) (sym yes ∙ signed)
+    taken b c ts signed sure passed same = passed ∙ ap (types_passed locals is) same ∙ ap (λ f. f && types_passed locals is (parameters t)) (sym sure ∙ signed)
 
     pub not_taken : (b : Bool) → b ≡ is_signature t → b ≡ false → false ≡ takes_locals locals t is
-    not_taken b signed no = first_not (is_signature t) (types_passed locals is (parameters t)) b signed no
+    not_taken b signed not_so = first_not (is_signature t) (types_passed locals is (parameters t)) b signed not_so
 
   -- ---- calls by name
 
@@ -229,7 +229,7 @@ module _ (locals : Locals) where
 
   module _ (given : Option Sort) (classes : List Class) (k : Kept) (t : SourceType) (is : List ℕ) where
     pub pointed_no_code : (a : Bool) → a ≡ is_code_for t k → a ≡ false → false ≡ pointed_fits locals given classes k t is
-    pointed_no_code a code no = first_not (is_code_for t k) _ a code no
+    pointed_no_code a code not_so = first_not (is_code_for t k) _ a code not_so
 
     abbrev all_of_five : Bool → Bool → Bool → Bool → Bool → Bool
     all_of_five a b c d e = a && (b && (c && (d && e)))
@@ -242,20 +242,20 @@ module _ (locals : Locals) where
     last_not false b c d = refl
 
     pub pointed_not_own : (b : Bool) → b ≡ (are_passed locals is && takes_locals locals t is) → b ≡ false → false ≡ pointed_fits locals given classes k t is
-    pointed_not_own b own no =
+    pointed_not_own b own not_so =
         last_not (is_code_for t k) (get_fits locals (library_type (codes "getchar")) t is) (put_fits locals (library_type (codes "putchar")) t is) (exit_fits locals (library_type (codes "exit")) t is)
         ∙ ap (all_of_five (is_code_for t k) (get_fits locals (library_type (codes "getchar")) t is) (put_fits locals (library_type (codes "putchar")) t is) (exit_fits locals (library_type (codes "exit")) t is))
-        (sym no ∙ own)
+        (sym not_so ∙ own)
 
     pub pointed_all : (a b d : Bool) → a ≡ is_code_for t k → a ≡ true → b ≡ (are_passed locals is && takes_locals locals t is) → b ≡ true → d ≡ may_lead_to_each t is
         → d ≡ pointed_fits locals given classes k t is
-    pointed_all a b d code yes own both lead =
+    pointed_all a b d code sure own both lead =
         let own_so = sym own ∙ both in
         let passed = and_left (are_passed locals is) (takes_locals locals t is) own_so in
         let signed = and_left (is_signature t) (types_passed locals is (parameters t)) (and_right (are_passed locals is) (takes_locals locals t is) own_so) in
         lead ∙ ended (may_lead library.Getchar t is) (may_lead library.Putchar t is) (may_lead library.Exit t is)
         ∙ sym (ap (λ f. all_of_five f (get_fits locals (library_type (codes "getchar")) t is) (put_fits locals (library_type (codes "putchar")) t is) (exit_fits locals (library_type (codes "exit")) t is)
-        (are_passed locals is && takes_locals locals t is)) (sym code ∙ yes)
+        (are_passed locals is && takes_locals locals t is)) (sym code ∙ sure)
         ∙ ap (λ f. all_of_five true f (put_fits locals (library_type (codes "putchar")) t is) (exit_fits locals (library_type (codes "exit")) t is) (are_passed locals is && takes_locals locals t is))
         (get_is is passed t signed)
         ∙ ap (λ f. all_of_five true (may_lead library.Getchar t is) f (exit_fits locals (library_type (codes "exit")) t is) (are_passed locals is && takes_locals locals t is)) (put_is is passed t signed)

@@ -41,7 +41,7 @@ pub number_fits : (tables : Tables) (o : Option Scalar) (k : Kind) (f : Kind →
 number_fits tables o k f is e = subst (λ p. Fit (of_sort (option_map (sort_in tables) p)) f) (sym is) (ap integer_of e)
 
 pub comparison_fits : (o : Arith) (k : Kind) (f : Kind → Bool) (b : Bool) → b ≡ compares o → b ≡ true → f ≡ (λ j. true) → Fit (result_kept o k) f
-comparison_fits o k f b is yes e = by o (sym is ∙ yes)
+comparison_fits o k f b is sure e = by o (sym is ∙ sure)
   where
     by : (o : Arith) → compares o ≡ true → Fit (result_kept o k) f
     by op.Less t = ap integer_of e
@@ -53,7 +53,7 @@ comparison_fits o k f b is yes e = by o (sym is ∙ yes)
     by o t = cc
 
 pub operator_fits : (o : Arith) (k : Kind) (f : Kind → Bool) (b : Bool) → b ≡ compares o → b ≡ false → f ≡ within k → Fit (result_kept o k) f
-operator_fits o k f b is no e = by o (sym is ∙ no)
+operator_fits o k f b is not_so e = by o (sym is ∙ not_so)
   where
     by : (o : Arith) → compares o ≡ false → Fit (result_kept o k) f
     by op.Less t = cc

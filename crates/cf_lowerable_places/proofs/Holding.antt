@@ -66,9 +66,6 @@ module _ (first second : List Kinds) where
   abbrev pub AreMet : ℕ → List Kinds → Type 0
   AreMet i xs = (q : ℕ) → kinds_at xs q ≡ Met (nat_lt q i) q
 
-  pub none_met : AreMet 0 first
-  none_met q = refl
-
   pub met_more : (i : ℕ) (xs zs : List Kinds) (x y z : Kinds) → AreMet i xs → i < length xs → has_kind y ≡ kinds_at xs i → has_kind z ≡ kinds_at second i
       → has_kind x ≡ both_kinds (has_kind y) (has_kind z) → zs ≡ slice_set xs i x → AreMet (i + 1) zs
   met_more i xs zs x y z met lt at there both set q = ap (λ l. kinds_at l q) set ∙ at_set xs i x q lt ∙ by (q == i) refl

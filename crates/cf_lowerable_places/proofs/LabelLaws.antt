@@ -46,10 +46,10 @@ module _ (x : Scene) (P : Plains → Bool) (p : Label → Bool) (one : (s : Plai
     next = sym so_far ∙ ap (λ l. P (statements_in x l)) (drop_item all i s within is) ∙ one (statement_in x s) (statements_in x (drop (i + 1) all))
 
     pub goes_on : p (label_in (statement_in x s)) ≡ true → P (statements_in x (drop (i + 1) all)) ≡ whole
-    goes_on yes = sym (next ∙ ap (λ b. b && P (statements_in x (drop (i + 1) all))) yes)
+    goes_on sure = sym (next ∙ ap (λ b. b && P (statements_in x (drop (i + 1) all))) sure)
 
     pub stops : p (label_in (statement_in x s)) ≡ false → false ≡ whole
-    stops no = sym (next ∙ ap (λ b. b && P (statements_in x (drop (i + 1) all))) no)
+    stops not_so = sym (next ∙ ap (λ b. b && P (statements_in x (drop (i + 1) all))) not_so)
 
   pub ended : P nothing ≡ true → length all ≤ i → true ≡ whole
   ended none past = sym none ∙ sym (at_drop_all (λ (l : List CodePlain). P (statements_in x l)) all i past) ∙ so_far
@@ -61,10 +61,10 @@ module _ (x : Scene) (all : List CodePlain) (i : ℕ) (whole : Bool) where
   module _ (k : Kind) (so_far : labels_fit k (statements_in x (drop i all)) ≡ whole) where
     pub fit_more : (s : CodePlain) (l : Label) (b : Bool) → i < length all → s ≡ get_or all i s → l ≡ label_in (statement_in x s) → b ≡ label_fits k l → b ≡ true
         → labels_fit k (statements_in x (drop (i + 1) all)) ≡ whole
-    fit_more s l b within is at fit yes = goes_on x (labels_fit k) (label_fits k) (fits_one k) all i whole so_far s within is (sym (ap (label_fits k) at) ∙ sym fit ∙ yes)
+    fit_more s l b within is at fit sure = goes_on x (labels_fit k) (label_fits k) (fits_one k) all i whole so_far s within is (sym (ap (label_fits k) at) ∙ sym fit ∙ sure)
 
     pub fit_stops : (s : CodePlain) (l : Label) (b : Bool) → i < length all → s ≡ get_or all i s → l ≡ label_in (statement_in x s) → b ≡ label_fits k l → b ≡ false → false ≡ whole
-    fit_stops s l b within is at fit no = stops x (labels_fit k) (label_fits k) (fits_one k) all i whole so_far s within is (sym (ap (label_fits k) at) ∙ sym fit ∙ no)
+    fit_stops s l b within is at fit not_so = stops x (labels_fit k) (label_fits k) (fits_one k) all i whole so_far s within is (sym (ap (label_fits k) at) ∙ sym fit ∙ not_so)
 
     pub fit_ended : length all ≤ i → true ≡ whole
     fit_ended past = ended x (labels_fit k) (label_fits k) (fits_one k) all i whole so_far refl past
@@ -72,12 +72,12 @@ module _ (x : Scene) (all : List CodePlain) (i : ℕ) (whole : Bool) where
   module _ (k : Label) (so_far : lacks k (statements_in x (drop i all)) ≡ whole) where
     pub lacks_more : (s : CodePlain) (l : Label) (b : Bool) → i < length all → s ≡ get_or all i s → l ≡ label_in (statement_in x s) → b ≡ same_label k l → b ≡ false
         → lacks k (statements_in x (drop (i + 1) all)) ≡ whole
-    lacks_more s l b within is at same no =
-        goes_on x (lacks k) (λ l. not (same_label k l)) (lacks_one k) all i whole so_far s within is (ap not (sym (ap (same_label k) at) ∙ sym same ∙ no))
+    lacks_more s l b within is at same not_so =
+        goes_on x (lacks k) (λ l. not (same_label k l)) (lacks_one k) all i whole so_far s within is (ap not (sym (ap (same_label k) at) ∙ sym same ∙ not_so))
 
     pub lacks_stops : (s : CodePlain) (l : Label) (b : Bool) → i < length all → s ≡ get_or all i s → l ≡ label_in (statement_in x s) → b ≡ same_label k l → b ≡ true → false ≡ whole
-    lacks_stops s l b within is at same yes =
-        stops x (lacks k) (λ l. not (same_label k l)) (lacks_one k) all i whole so_far s within is (ap not (sym (ap (same_label k) at) ∙ sym same ∙ yes))
+    lacks_stops s l b within is at same sure =
+        stops x (lacks k) (λ l. not (same_label k l)) (lacks_one k) all i whole so_far s within is (ap not (sym (ap (same_label k) at) ∙ sym same ∙ sure))
 
     pub lacks_ended : length all ≤ i → true ≡ whole
     lacks_ended past = ended x (lacks k) (λ l. not (same_label k l)) (lacks_one k) all i whole so_far (none k) past
@@ -97,10 +97,10 @@ module _ (x : Scene) (rest : List CodePlain) (whole : Bool) (so_far : labels_dif
         ∙ ap (λ c. c && labels_differ [] (statements_in x others)) (sym (lack ∙ ap (λ k. lacks k (statements_in x others)) at))
 
     pub differ_more : b ≡ true → labels_differ [] (statements_in x others) ≡ whole
-    differ_more yes = sym (next_label ∙ ap (λ c. c && labels_differ [] (statements_in x others)) yes)
+    differ_more sure = sym (next_label ∙ ap (λ c. c && labels_differ [] (statements_in x others)) sure)
 
     pub differ_stops : b ≡ false → false ≡ whole
-    differ_stops no = sym (next_label ∙ ap (λ c. c && labels_differ [] (statements_in x others)) no)
+    differ_stops not_so = sym (next_label ∙ ap (λ c. c && labels_differ [] (statements_in x others)) not_so)
 
   pub differ_ended : rest ≡ [] → true ≡ whole
   differ_ended none = sym (ap (λ r. labels_differ [] (statements_in x r)) none) ∙ so_far

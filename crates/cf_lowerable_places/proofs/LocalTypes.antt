@@ -127,7 +127,7 @@ module _ (tables : Tables) (t : ℕ) (o : Option ℕ) (refers : Refers tables t 
 -- ---- objects that begin
 
 pub begins : (x : Scene) (i : ℕ) (t : SourceType) (b c : Bool) → b ≡ is_local (locals_in x) i t → b ≡ true → c ≡ is_laid (classes_of x.tables.now) t → c ≡ may_begin (view_in x) i t
-begins x i t b c local yes laid = laid ∙ ap (λ a. a && is_laid (classes_of x.tables.now) t) (sym yes ∙ local)
+begins x i t b c local sure laid = laid ∙ ap (λ a. a && is_laid (classes_of x.tables.now) t) (sym sure ∙ local)
 
 pub begins_not : (x : Scene) (i : ℕ) (t : SourceType) (b : Bool) → b ≡ is_local (locals_in x) i t → b ≡ false → false ≡ may_begin (view_in x) i t
-begins_not x i t b local no = ap (λ a. a && is_laid (classes_of x.tables.now) t) (sym no ∙ local)
+begins_not x i t b local not_so = ap (λ a. a && is_laid (classes_of x.tables.now) t) (sym not_so ∙ local)

@@ -37,10 +37,10 @@ move_other (argument n u) (holds s) e = refl
 move_other (argument n u) (argument i t) e = refl
 
 pub moves : (x y : Kept) (b c : Bool) → b ≡ is_integer y → b ≡ true → c ≡ may_zero x → c ≡ may_move x y
-moves x y b c integer yes zero = zero ∙ move_number x y (sym integer ∙ yes)
+moves x y b c integer sure zero = zero ∙ move_number x y (sym integer ∙ sure)
 
 pub moves_not : (x y : Kept) (b : Bool) → b ≡ is_integer y → b ≡ false → false ≡ may_move x y
-moves_not x y b integer no = move_other x y (sym integer ∙ no)
+moves_not x y b integer not_so = move_other x y (sym integer ∙ not_so)
 
 add_turned : (x y : Kept) → is_integer x ≡ true → may_move y x ≡ may_add x y
 add_turned (integer_of f) unknown e = refl
@@ -60,10 +60,10 @@ add_same (holds s) y e = refl
 add_same (argument i t) y e = refl
 
 pub adds_turned : (x y : Kept) (b c : Bool) → b ≡ is_integer x → b ≡ true → c ≡ may_move y x → c ≡ may_add x y
-adds_turned x y b c integer yes moved = moved ∙ add_turned x y (sym integer ∙ yes)
+adds_turned x y b c integer sure moved = moved ∙ add_turned x y (sym integer ∙ sure)
 
 pub adds : (x y : Kept) (b c : Bool) → b ≡ is_integer x → b ≡ false → c ≡ may_move x y → c ≡ may_add x y
-adds x y b c integer no moved = moved ∙ add_same x y (sym integer ∙ no)
+adds x y b c integer not_so moved = moved ∙ add_same x y (sym integer ∙ not_so)
 
 order_both : (x y : Kept) → (is_address x && is_address y) ≡ have_order x y
 order_both unknown y = refl
@@ -108,7 +108,7 @@ subtract_other (holds (address t)) (holds (code u)) e = refl
 subtract_other (holds (address t)) (argument i u) e = refl
 
 pub subtracts : (x y : Kept) (b c : Bool) → b ≡ is_address y → b ≡ true → c ≡ may_zero x → c ≡ may_subtract x y
-subtracts x y b c pointed yes zero = zero ∙ subtract_address x y (sym pointed ∙ yes)
+subtracts x y b c pointed sure zero = zero ∙ subtract_address x y (sym pointed ∙ sure)
 
 pub subtracts_not : (x y : Kept) (b : Bool) → b ≡ is_address y → b ≡ false → false ≡ may_subtract x y
-subtracts_not x y b pointed no = subtract_other x y (sym pointed ∙ no)
+subtracts_not x y b pointed not_so = subtract_other x y (sym pointed ∙ not_so)

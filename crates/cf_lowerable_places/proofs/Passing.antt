@@ -18,8 +18,8 @@ module _ (locals : Locals) where
 
   pub one_more : (rest others all : List ℕ) (i : ℕ) (b : Bool) → rest ≡ i ∷ others → b ≡ (is_passed locals i && not (is_among i others)) → b ≡ true
       → are_passed locals rest ≡ are_passed locals all → are_passed locals others ≡ are_passed locals all
-  one_more rest others all i b is e yes so_far =
-      sym (one_passed (is_passed locals i) (not (is_among i others)) (are_passed locals others) (sym e ∙ yes)) ∙ sym (ap (are_passed locals) is) ∙ so_far
+  one_more rest others all i b is e sure so_far =
+      sym (one_passed (is_passed locals i) (not (is_among i others)) (are_passed locals others) (sym e ∙ sure)) ∙ sym (ap (are_passed locals) is) ∙ so_far
 
   not_one : (b c d : Bool) → (b && c) ≡ false → (b && (c && d)) ≡ false
   not_one true true d e = cc
@@ -28,8 +28,8 @@ module _ (locals : Locals) where
 
   pub one_fails : (rest others all : List ℕ) (i : ℕ) (b : Bool) → rest ≡ i ∷ others → b ≡ (is_passed locals i && not (is_among i others)) → b ≡ false
       → are_passed locals rest ≡ are_passed locals all → false ≡ are_passed locals all
-  one_fails rest others all i b is e no so_far =
-      sym (not_one (is_passed locals i) (not (is_among i others)) (are_passed locals others) (sym e ∙ no)) ∙ sym (ap (are_passed locals) is) ∙ so_far
+  one_fails rest others all i b is e not_so so_far =
+      sym (not_one (is_passed locals i) (not (is_among i others)) (are_passed locals others) (sym e ∙ not_so)) ∙ sym (ap (are_passed locals) is) ∙ so_far
 
   -- ---- types
 
@@ -57,13 +57,13 @@ module _ (locals : Locals) where
 
     pub type_more : (n i t : ℕ) (is ts : List ℕ) (b whole : Bool) → n < length is → n < length ts → i ≡ get_or is n i → t ≡ get_or ts n t
         → b ≡ same_but_const (type_of_local locals i) (f t) → b ≡ true → From n is ts ≡ whole → From (n + 1) is ts ≡ whole
-    type_more n i t is ts b whole lt below at of e yes so_far =
-        ap (λ c. c && From (n + 1) is ts) (sym yes ∙ e) ∙ sym (next n i t is ts lt below at of) ∙ so_far
+    type_more n i t is ts b whole lt below at of e sure so_far =
+        ap (λ c. c && From (n + 1) is ts) (sym sure ∙ e) ∙ sym (next n i t is ts lt below at of) ∙ so_far
 
     pub type_fails : (n i t : ℕ) (is ts : List ℕ) (b whole : Bool) → n < length is → n < length ts → i ≡ get_or is n i → t ≡ get_or ts n t
         → b ≡ same_but_const (type_of_local locals i) (f t) → b ≡ false → From n is ts ≡ whole → false ≡ whole
-    type_fails n i t is ts b whole lt below at of e no so_far =
-        ap (λ c. c && From (n + 1) is ts) (sym no ∙ e) ∙ sym (next n i t is ts lt below at of) ∙ so_far
+    type_fails n i t is ts b whole lt below at of e not_so so_far =
+        ap (λ c. c && From (n + 1) is ts) (sym not_so ∙ e) ∙ sym (next n i t is ts lt below at of) ∙ so_far
 
     pub types_all : (n : ℕ) (is ts : List ℕ) (whole : Bool) → length is ≤ n → length ts ≤ n → From n is ts ≡ whole → true ≡ whole
     types_all n is ts whole past over so_far =

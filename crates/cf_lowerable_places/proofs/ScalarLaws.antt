@@ -8,14 +8,14 @@ use Rattle.cf_lower_place.specs.Leaf.{is_local, may_hold, may_first}
 
 module _ (locals : Locals) (i : ℕ) (t : SourceType) (k : Kept) where
   pub passes : (b c : Bool) (s : Option Sort) → b ≡ is_local locals i t → b ≡ true → c ≡ may_hold s k → s ≡ sort_of t → c ≡ may_first locals (argument i t) k
-  passes b c s local yes held is = held ∙ ap (λ o. may_hold o k) is ∙ ap (λ a. a && may_hold (sort_of t) k) (sym yes ∙ local)
+  passes b c s local sure held is = held ∙ ap (λ o. may_hold o k) is ∙ ap (λ a. a && may_hold (sort_of t) k) (sym sure ∙ local)
 
   pub passes_not : (b : Bool) → b ≡ is_local locals i t → b ≡ false → false ≡ may_first locals (argument i t) k
-  passes_not b local no = ap (λ a. a && may_hold (sort_of t) k) (sym no ∙ local)
+  passes_not b local not_so = ap (λ a. a && may_hold (sort_of t) k) (sym not_so ∙ local)
 
 module _ (t u : SourceType) where
   pub to_void : (b : Bool) → b ≡ type_eq u void → b ≡ true → true ≡ (type_eq u void || type_eq t u)
-  to_void b is yes = ap (λ a. a || type_eq t u) (sym yes ∙ is)
+  to_void b is sure = ap (λ a. a || type_eq t u) (sym sure ∙ is)
 
   pub to_same : (b c : Bool) → b ≡ type_eq u void → b ≡ false → c ≡ type_eq t u → c ≡ (type_eq u void || type_eq t u)
-  to_same b c is no same = same ∙ ap (λ a. a || type_eq t u) (sym no ∙ is)
+  to_same b c is not_so same = same ∙ ap (λ a. a || type_eq t u) (sym not_so ∙ is)

@@ -94,9 +94,9 @@ module _ (x : Scene) where
   module _ (r : ℕ) (ss ts : List CodePlain) (g k : Keeping) (same : k ≡ g) where
     pub branch_placed : (b c tested first second all : Bool) → tested ≡ is_number (g r) → first ≡ Placed b c ss g → second ≡ Placed b c ts k → all ≡ (tested && (first && second))
         → all ≡ in_place (locals_in x) (fits_in x) b c (branch r (statements_in x ss) (statements_in x ts)) g
-    branch_placed b c tested first second all number yes no so =
-        so ∙ ap (λ d. d && (first && second)) number ∙ ap (λ d. is_number (g r) && (d && second)) yes
-        ∙ ap (λ d. is_number (g r) && (Placed b c ss g && d)) (no ∙ ap (Placed b c ts) same)
+    branch_placed b c tested first second all number sure not_so so =
+        so ∙ ap (λ d. d && (first && second)) number ∙ ap (λ d. is_number (g r) && (d && second)) sure
+        ∙ ap (λ d. is_number (g r) && (Placed b c ss g && d)) (not_so ∙ ap (Placed b c ts) same)
 
     pub branch_behind : (f h n : Keeping) → f ≡ Behind ss g → h ≡ Behind ts k → n ≡ common f h → n ≡ after (locals_in x) (branch r (statements_in x ss) (statements_in x ts)) g
     branch_behind f h n first second meets =
@@ -108,7 +108,7 @@ module _ (x : Scene) where
 
   pub turns_placed : (first second all : Bool) (ss ts : List CodePlain) (h : Keeping) → first ≡ Placed true true ss h → second ≡ Placed true false ts h → all ≡ (first && second)
       → all ≡ (Placed true true ss h && Placed true false ts h)
-  turns_placed first second all ss ts h yes no so = so ∙ ap (λ d. d && second) yes ∙ ap (λ d. Placed true true ss h && d) no
+  turns_placed first second all ss ts h sure not_so so = so ∙ ap (λ d. d && second) sure ∙ ap (λ d. Placed true true ss h && d) not_so
 
   pub loop_placed : (b c good : Bool) (ss ts : List CodePlain) (g h : Keeping) → h ≡ after (locals_in x) (loop (statements_in x ss) (statements_in x ts)) g
       → good ≡ (Placed true true ss h && Placed true false ts h) → good ≡ in_place (locals_in x) (fits_in x) b c (loop (statements_in x ss) (statements_in x ts)) g
@@ -140,8 +140,8 @@ module _ (x : Scene) where
 
   pub label_turn : (c b : Bool) (s : CodePlain) (l : Label) (rest : Plains) (k g h : Keeping) → l ≡ label_in (statement_in x s) → b ≡ is_label l → b ≡ true → h ≡ k
       → (true && items_in_place (locals_in x) (fits_in x) c rest k h) ≡ items_in_place (locals_in x) (fits_in x) c (more (statement_in x s) rest) k g
-  label_turn c b s l rest k g h at is yes same =
-      ap (items_in_place (locals_in x) (fits_in x) c rest k) same ∙ label_form c (statement_in x s) rest k g (ap is_label (sym at) ∙ sym is ∙ yes)
+  label_turn c b s l rest k g h at is sure same =
+      ap (items_in_place (locals_in x) (fits_in x) c rest k) same ∙ label_form c (statement_in x s) rest k g (ap is_label (sym at) ∙ sym is ∙ sure)
 
   other_form : (c : Bool) (p : Plain) (rest : Plains) (k g : Keeping) → is_label (label_in p) ≡ false
       → (in_place (locals_in x) (fits_in x) true c p g && items_in_place (locals_in x) (fits_in x) c rest k (after (locals_in x) p g))
@@ -161,7 +161,7 @@ module _ (x : Scene) where
   pub statement_turn : (c good b : Bool) (s : CodePlain) (l : Label) (rest : Plains) (k g h : Keeping) → l ≡ label_in (statement_in x s) → b ≡ is_label l → b ≡ false
       → good ≡ in_place (locals_in x) (fits_in x) true c (statement_in x s) g → h ≡ after (locals_in x) (statement_in x s) g
       → (good && items_in_place (locals_in x) (fits_in x) c rest k h) ≡ items_in_place (locals_in x) (fits_in x) c (more (statement_in x s) rest) k g
-  statement_turn c good b s l rest k g h at is no placed behind =
+  statement_turn c good b s l rest k g h at is not_so placed behind =
       ap (λ d. d && items_in_place (locals_in x) (fits_in x) c rest k h) placed
       ∙ ap (λ f. in_place (locals_in x) (fits_in x) true c (statement_in x s) g && items_in_place (locals_in x) (fits_in x) c rest k f) behind
-      ∙ other_form c (statement_in x s) rest k g (ap is_label (sym at) ∙ sym is ∙ no)
+      ∙ other_form c (statement_in x s) rest k g (ap is_label (sym at) ∙ sym is ∙ not_so)

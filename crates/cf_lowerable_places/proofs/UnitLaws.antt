@@ -25,10 +25,10 @@ module _ (tables : Tables) (all : List PlainFn) where
           ∙ ap (λ b. b && From (i + 1)) (sym placed)
 
       pub function_more : good ≡ true → From (i + 1) ≡ whole
-      function_more yes = sym (next ∙ ap (λ b. b && From (i + 1)) yes)
+      function_more sure = sym (next ∙ ap (λ b. b && From (i + 1)) sure)
 
       pub function_fails : good ≡ false → false ≡ whole
-      function_fails no = sym (next ∙ ap (λ b. b && From (i + 1)) no)
+      function_fails not_so = sym (next ∙ ap (λ b. b && From (i + 1)) not_so)
 
     pub functions_ended : (whole : Bool) → length all ≤ i → From i ≡ whole → true ≡ whole
     functions_ended whole past so_far =

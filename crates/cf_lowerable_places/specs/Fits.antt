@@ -1,5 +1,5 @@
 -- What is asked of the statements of a function, but that the registers that they set are below a bound, as they are.
-use Rattle.std.specs.Prelude.{ℕ, Bool, true, ◌&&◌, if◌then◌else◌, List, Option, None, bytes_eq, codes}
+use Rattle.std.specs.Prelude.{ℕ, Bool, true, ◌&&◌, if◌then◌else◌, List, Option, Some, None, bytes_eq, codes}
 use Rattle.cf_core.specs.Types.{Name, SourceType}
 use Rattle.cf_core.specs.Classes.{Class}
 use Rattle.cf_core.specs.Calls.{is_library}
@@ -10,7 +10,7 @@ use Rattle.cf_lower.specs.Kept.{Kept, Keeping, Locals}
 use Rattle.cf_lower_held.specs.declared.scene.Scene.{Scene}
 use Rattle.cf_lower_held.specs.Scenes.{locals_in}
 use Rattle.cf_lower_place.specs.View.{View}
-use Rattle.cf_lower_place.specs.Leaf.{may_set, is_leaf}
+use Rattle.cf_lower_place.specs.Leaf.{may_hold, may_set, is_leaf}
 use Rattle.cf_lower_place.specs.Calls.{are_passed, is_code_for, library_fits, put_fits, exit_fits, get_fits}
 use Rattle.cf_lower_place.specs.Named.{library_type, may_be_named, takes_locals}
 use Rattle.cf_lower_types.specs.Bare.{classes_of}
@@ -63,3 +63,8 @@ view_in x = view (locals_in x) (given_in x) (classes_of x.tables.now)
 
 abbrev pub fits_in : Scene → Keeping → Plain → Bool
 fits_in x = statement_fits (locals_in x) (given_in x) (classes_of x.tables.now)
+
+-- whether a function that gives this returns what a register holds
+abbrev pub takes_given : Option Sort → Kept → Bool
+takes_given None k = true
+takes_given (Some u) k = may_hold (Some u) k

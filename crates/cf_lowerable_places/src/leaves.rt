@@ -1,6 +1,7 @@
 //! Statements of one action.
 
 ghost use Rattle.std.specs.Prelude.{◌≡◌, ◌||◌, IfOk};
+ghost use Rattle.std.specs.Option.{option_map};
 ghost use Rattle.cf_base.specs.Integers as integers;
 ghost use Rattle.cf_base.specs.declared.kind.Kind.TheVariants as kind;
 ghost use Rattle.cf_core.specs.FromTypes.{type_of};
@@ -8,9 +9,9 @@ ghost use Rattle.cf_core.specs.Types as types;
 ghost use Rattle.cf_lower_held.specs.Scenes.{action_in, locals_in};
 ghost use Rattle.cf_lower_layout.specs.Sorts as sorts;
 ghost use Rattle.cf_lower_place.specs.Leaf as leaf;
-ghost use Rattle.cf_lower_types.specs.Bare.{classes_of};
+ghost use Rattle.cf_lower_types.specs.Bare.{classes_of, sort_in};
 ghost use Rattle.cf_lowerable_places.specs.Contents.{known, knowing};
-ghost use Rattle.cf_lowerable_places.specs.Fits.{given_in, set_fits, view_in};
+ghost use Rattle.cf_lowerable_places.specs.Fits.{given_in, set_fits, takes_given, view_in};
 
 use crate::calls::{set_by_name, set_by_pointer};
 use crate::content::Content;
@@ -27,7 +28,7 @@ use crate::scalars::{may_convert, may_first, may_hold, may_store};
 use crate::types::{are_chars, is_object_type, is_void};
 use cf_base::{Kind, Memory};
 use cf_lower_held::Scene;
-use cf_lower_types::{Tables, sort_of};
+use cf_lower_types::{Scalar, Tables, sort_of};
 use cf_plain::Action;
 use cf_types::TyId;
 
@@ -148,14 +149,21 @@ pub fn may_do(x: &Scene<'_>, cs: &Contents, a: &Action) -> Result<bool, Memory>
     }
 }
 
-/// Whether a function may return what a register holds.
-#[tactic(auto, using(crate::proofs::LeafLaws::given_scalar))]
-fn may_return(x: &Scene<'_>, content: &Content) -> Result<bool, Memory>
-    ensures { IfOk result (λ may. may ≡ leaf.may_hold (given_in x.now) (known x.now.tables.now content.now)) }
+/// Whether a function that gives this scalar, if it is one, may return what a register holds.
+fn may_return(
+    tables: &Tables<'_>,
+    scalar: &Option<Scalar>,
+    content: &Content,
+) -> Result<bool, Memory>
+    ensures { IfOk result (λ may. may ≡ takes_given (option_map (sort_in tables.now) scalar.now) (known tables.now content.now)) }
 {
-    let scalar = sort_of(x.tables, x.result);
-    let may = may_hold(x.tables, &scalar, content)?;
-    Ok(may)
+    match scalar {
+        None => Ok(true),
+        Some(_) => {
+            let may = may_hold(tables, scalar, content)?;
+            Ok(may)
+        }
+    }
 }
 
 /// Whether a function may return, and what the register holds if one is named.
@@ -166,7 +174,8 @@ pub fn may_give(x: &Scene<'_>, cs: &Contents, register: Option<u32>) -> Result<b
     match register {
         None => Ok(true),
         Some(register) => {
-            let may = may_return(x, &held(x, cs, register))?;
+            let scalar = sort_of(x.tables, x.result);
+            let may = may_return(x.tables, &scalar, &held(x, cs, register))?;
             Ok(may)
         }
     }

@@ -13,8 +13,8 @@ statements-loop-s-preserved t c =
     let x = c.args.x.now in
     let all = c.as_slice-s-items.result.now in
     record {
-      placed = placed_more x all c.loop-s.s-index c.s-item.result c.loop-s-test.true c.s-item.is c.args.breaks c.args.continues c.loop-s.good c.in_ok-here.here c.both.result _
-          (knowing x c.loop-s.cs) (knowing x c.statement.new.cs) c.in_ok-here.ensures.placed c.in_ok-here.ensures.held c.both.ensures c.loop-s.invariant.placed;
+      placed = placed_more x all c.loop-s.s-index c.s-item.result c.loop-s-test.true c.s-item.is c.args.breaks c.args.continues c.loop-s.good c.in_ok-here.here c.both-good.result _
+          (knowing x c.loop-s.cs) (knowing x c.statement.new.cs) c.in_ok-here.ensures.placed c.in_ok-here.ensures.held c.both-good.ensures c.loop-s.invariant.placed;
       held = behind_more x all c.loop-s.s-index c.s-item.result c.loop-s-test.true c.s-item.is _ (knowing x c.loop-s.cs) (knowing x c.statement.new.cs) c.in_ok-here.ensures.held
           c.loop-s.invariant.held;
     }
@@ -46,8 +46,8 @@ pub items-loop-s-preserved : goal.items-loop-s-preserved
 items-loop-s-preserved t c =
     let x = c.args.x.now in
     let all = c.as_slice-s-items.result.now in
-    listed_more x all c.loop-s.s-index c.s-item.result c.loop-s-test.true c.s-item.is c.args.continues c.loop-s.good c.in_ok-here.here c.both.result _ (knowing x c.args.cs.now)
-    (knowing x c.loop-s.running) (knowing x c.item.new.running) (c.in_ok-here.ensures (statements_in x (drop (c.loop-s.s-index + 1) all))) c.both.ensures c.loop-s.invariant
+    listed_more x all c.loop-s.s-index c.s-item.result c.loop-s-test.true c.s-item.is c.args.continues c.loop-s.good c.in_ok-here.here c.both-good.result _ (knowing x c.args.cs.now)
+    (knowing x c.loop-s.running) (knowing x c.item.new.running) (c.in_ok-here.ensures (statements_in x (drop (c.loop-s.s-index + 1) all))) c.both-good.ensures c.loop-s.invariant
 
 pub items-returns : goal.items-returns
 items-returns t c =
@@ -66,10 +66,16 @@ switched-returns t c =
     }
 
 pub item-returns-in_ok-running : goal.item-returns-in_ok-running
-item-returns-in_ok-running t c = ?
+item-returns-in_ok-running t c =
+    let x = c.args.x.now in
+    λ rest. label_turn x c.args.continues c.is_label.result c.args.s.now c.label_of.result rest (knowing x c.args.cs.now) (knowing x c.args.running.now)
+    (knowing x c.in_ok-running.field-0) (c.label_of.ensures x) c.is_label.ensures c.if-is_label.true (c.in_ok-running.ensures x.tables.now)
 
 pub item-returns-in_ok-good : goal.item-returns-in_ok-good
-item-returns-in_ok-good t c = ?
+item-returns-in_ok-good t c =
+    let x = c.args.x.now in
+    λ rest. statement_turn x c.args.continues c.in_ok-good.good c.is_label.result c.args.s.now c.label_of.result rest (knowing x c.args.cs.now) (knowing x c.args.running.now)
+    (knowing x c.statement.new.cs) (c.label_of.ensures x) c.is_label.ensures c.if-is_label.false c.in_ok-good.ensures.placed c.in_ok-good.ensures.held
 
 -- ---- one statement, by its form
 
