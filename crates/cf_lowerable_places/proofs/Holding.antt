@@ -194,3 +194,9 @@ forgotten x locals ss old new kept kinds = λ j q. point q j
         ap (λ (g : Keeping). restored (g q) (kinds_at new.kinds.items q)) kept
         ∙ by q (all_set locals q ss) (kinds_at new.kinds.items q)
         ∙ ap (λ l. if all_set locals q ss then unknown else restored (keeping x.tables.now old.registers q) (kinds_at l q)) kinds
+
+-- what one register holds
+pub got : (tables : Tables) (cs : Contents) (r : ℕ) (h : Held) (ks : Kinds) (xs : List Kinds) → h ≡ held_at cs.registers.held.items r → has_kind ks ≡ kinds_at xs r → xs ≡ cs.kinds.items
+    → restored (kept_in tables h) (has_kind ks) ≡ contents_in tables cs r
+got tables cs r h ks xs holds kinds same =
+    ap (λ k. restored (kept_in tables k) (has_kind ks)) holds ∙ ap (restored (kept_in tables (held_at cs.registers.held.items r))) (kinds ∙ ap (λ l. kinds_at l r) same)

@@ -16,3 +16,4 @@ pub mod Bounded
 pub mod FunctionForms
 pub mod UnitLaws
 mod Rows
+pub mod ActionKinds

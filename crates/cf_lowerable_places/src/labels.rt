@@ -128,18 +128,32 @@ pub fn labels_differ(all: &Items<Plain>) -> bool
     true
 }
 
+fn both(a: bool, b: bool) -> bool
+    ensures { result ≡ (a && b) }
+{
+    a && b
+}
+
+fn either(a: bool, b: bool) -> bool
+    ensures { result ≡ (a || b) }
+{
+    a || b
+}
+
 /// Whether a number of these types goes to labels that one of the types has.
 fn selects(kinds: &Kinds, kind: Kind, all: &Items<Plain>) -> bool
     ensures { (x : SceneOf) → result ≡ (has_kind kinds.now kind && in_place.labels_fit kind (statements_in x all.now)) }
 {
-    kinds.has(kind) && labels_fit(kind, all)
+    both(kinds.has(kind), labels_fit(kind, all))
 }
 
 /// Whether it goes to labels of int or to labels of unsigned int.
 fn selects_any(kinds: &Kinds, all: &Items<Plain>) -> bool
     ensures { (x : SceneOf) → result ≡ ((has_kind kinds.now kind.Int && in_place.labels_fit kind.Int (statements_in x all.now)) || (has_kind kinds.now kind.UInt && in_place.labels_fit kind.UInt (statements_in x all.now))) }
 {
-    selects(kinds, Kind::Int, all) || selects(kinds, Kind::UInt, all)
+    let signed = selects(kinds, Kind::Int, all);
+    let unsigned = selects(kinds, Kind::UInt, all);
+    either(signed, unsigned)
 }
 
 /// Whether a switch goes by what a register holds to labels that it may have.

@@ -28,7 +28,7 @@ pub fn held(x: &Scene<'_>, cs: &Contents, register: u32) -> Content
 }
 
 /// The types of the integer that is read at a place, if it is one.
-#[tactic(auto, using(crate::proofs::Giving::scalar_fits))]
+#[tactic(auto, using(crate::proofs::ActionKinds::place_read))]
 fn read_kinds(tables: &Tables<'_>, place: &Content) -> Kinds
     ensures { restored (definition.read_kept (known tables.now place.now)) (has_kind result) ≡ definition.read_kept (known tables.now place.now) }
 {
@@ -130,7 +130,7 @@ fn constant_kinds(value: i64) -> Kinds
 }
 
 /// The types of the integer that an action gives, if it gives one.
-#[tactic(auto, using(crate::proofs::Giving::declared_fits, crate::proofs::Giving::scalar_fits))]
+#[tactic(auto, using(crate::proofs::Giving::declared_fits, crate::proofs::ActionKinds::unary_given, crate::proofs::ActionKinds::truth_given, crate::proofs::ActionKinds::not_given, crate::proofs::ActionKinds::convert_given, crate::proofs::ActionKinds::call_given, crate::proofs::ActionKinds::pointed_given))]
 fn given_kinds(x: &Scene<'_>, cs: &Contents, a: &Action) -> Kinds
     ensures { restored (definition.kept_by (locals_in x.now) (knowing x.now cs.now) (action_in x.now a.now)) (has_kind result) ≡ definition.kept_by (locals_in x.now) (knowing x.now cs.now) (action_in x.now a.now) }
 {
