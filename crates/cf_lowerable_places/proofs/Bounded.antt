@@ -14,7 +14,6 @@ use Rattle.cf_lower_place.specs.View.{View, Reach}
 use Rattle.cf_plain.specs.Plain as plain
 use Rattle.cf_plain.specs.Plain.{Action, Plain, Plains, act, set, branch, loop, switch, case_label, default_label, leave, continue, give, parts, nothing, more}
 use Rattle.cf_plain.specs.Valid.{labels_differ}
-
 use Rattle.cf_lowerable_places.specs.Fits.{view, view_below, set_fits, statement_fits}
 
 module _ (locals : Locals) (given : Option Sort) (classes : List Class) (n : ℕ) where

@@ -176,7 +176,12 @@ fn may_lead_to_each(tables: &Tables<'_>, ty: TyId, arguments: &[u32]) -> bool
 
 /// Whether a call through what a register holds fits.
 #[tactic(auto, using(crate::proofs::CallLaws::pointed_all, crate::proofs::CallLaws::pointed_no_code, crate::proofs::CallLaws::pointed_not_own))]
-fn pointed_call(x: &Scene<'_>, pointer: &Content, ty: TyId, arguments: &[u32]) -> Result<bool, Memory>
+fn pointed_call(
+    x: &Scene<'_>,
+    pointer: &Content,
+    ty: TyId,
+    arguments: &[u32],
+) -> Result<bool, Memory>
     ensures { IfOk result (λ good. good ≡ fits.pointed_fits (locals_in x.now) (fits.given_in x.now) (classes_of x.now.tables.now) (known x.now.tables.now pointer.now) (type_of x.now.tables.now ty) arguments.now) }
 {
     if !is_code_for(x.tables, ty, pointer)? {

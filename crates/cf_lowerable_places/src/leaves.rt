@@ -16,7 +16,6 @@ ghost use Rattle.cf_lowerable_places.specs.Fits.{given_in, set_fits, takes_given
 use crate::calls::{set_by_name, set_by_pointer};
 use crate::content::Content;
 use crate::contents::Contents;
-use crate::setting::held;
 use crate::kinds::fits;
 use crate::library::may_be_named;
 use crate::locals::{may_be_local, may_begin, may_finish};
@@ -25,6 +24,7 @@ use crate::operands::{
     may_add, may_change, may_operate, may_zero,
 };
 use crate::scalars::{may_convert, may_first, may_hold, may_store};
+use crate::setting::held;
 use crate::types::{are_chars, is_object_type, is_void};
 use cf_base::{Kind, Memory};
 use cf_lower_held::Scene;
@@ -69,7 +69,10 @@ fn gives(x: &Scene<'_>, cs: &Contents, a: &Action) -> Result<bool, Memory>
         Action::Convert { ty, operand } => converts(x.tables, *ty, &held(x, cs, *operand)),
         Action::FromVoid { operand, .. } => Ok(is_address(&held(x, cs, *operand))),
         Action::Operate {
-            kind, left, right, ..
+            kind,
+            left,
+            right,
+            ..
         } => Ok(is_promoted(*kind) && are_integers(&held(x, cs, *left), &held(x, cs, *right))),
         Action::Unary { kind, operand, .. } => {
             Ok(is_promoted(*kind) && is_integer(&held(x, cs, *operand)))
@@ -99,7 +102,14 @@ pub fn may_set(x: &Scene<'_>, cs: &Contents, a: &Action) -> Result<bool, Memory>
             object,
             arguments,
             result,
-        } => set_by_name(x, function.as_slice(), *ty, *object, arguments.as_slice(), *result),
+        } => set_by_name(
+            x,
+            function.as_slice(),
+            *ty,
+            *object,
+            arguments.as_slice(),
+            *result,
+        ),
         Action::PointerCall {
             object,
             pointer,

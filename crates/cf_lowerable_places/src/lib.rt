@@ -10,7 +10,6 @@ mod calls;
 mod content;
 mod contents;
 mod functions;
-
 mod kinds;
 mod labels;
 mod leaves;

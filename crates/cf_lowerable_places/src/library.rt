@@ -69,9 +69,7 @@ fn takes_int(tables: &Tables<'_>, function: &Fun) -> bool
     ensures { result ≡ spec.one_int tables.now function.now.params }
 {
     match function.params.as_slice().split_first() {
-        Some((first, rest)) => {
-            rest.len() == 0 && is_integer_type(tables, Kind::Int, *first)
-        }
+        Some((first, rest)) => { rest.len() == 0 && is_integer_type(tables, Kind::Int, *first) }
         None => false,
     }
 }

@@ -85,11 +85,7 @@ pub fn may_hold(
 }
 
 /// Whether a place takes a value.
-pub fn may_store(
-    tables: &Tables<'_>,
-    place: &Content,
-    value: &Content,
-) -> Result<bool, Memory>
+pub fn may_store(tables: &Tables<'_>, place: &Content, value: &Content) -> Result<bool, Memory>
     ensures { IfOk result (λ may. may ≡ leaf.may_store (known tables.now place.now) (known tables.now value.now)) }
 {
     match place {

@@ -118,12 +118,7 @@ fn item(
 
 /// Whether the labels and statements of a switch are in place, where the registers hold this before it and at each label.
 #[cycle(statements)]
-fn items(
-    x: &Scene<'_>,
-    all: &Items<Plain>,
-    continues: bool,
-    cs: &Contents,
-) -> Result<bool, Memory>
+fn items(x: &Scene<'_>, all: &Items<Plain>, continues: bool, cs: &Contents) -> Result<bool, Memory>
     ensures { IfOk result (λ good. good ≡ in_place.items_in_place (locals_in x.now) (fits_in x.now) continues (statements_in x.now all.now) (knowing x.now cs.now) (knowing x.now cs.now)) }
 {
     let mut good = true;
