@@ -198,5 +198,5 @@ forgotten x locals ss old new kept kinds = λ j q. point q j
 -- what one register holds
 pub got : (tables : Tables) (cs : Contents) (r : ℕ) (h : Held) (ks : Kinds) (xs : List Kinds) → h ≡ held_at cs.registers.held.items r → has_kind ks ≡ kinds_at xs r → xs ≡ cs.kinds.items
     → restored (kept_in tables h) (has_kind ks) ≡ contents_in tables cs r
-got tables cs r h ks xs holds kinds same =
-    ap (λ k. restored (kept_in tables k) (has_kind ks)) holds ∙ ap (restored (kept_in tables (held_at cs.registers.held.items r))) (kinds ∙ ap (λ l. kinds_at l r) same)
+got tables cs r h ks xs held kinds same =
+    ap (λ k. restored (kept_in tables k) (has_kind ks)) held ∙ ap (restored (kept_in tables (held_at cs.registers.held.items r))) (kinds ∙ ap (λ l. kinds_at l r) same)
