@@ -14,5 +14,10 @@ mod site;
 mod stores;
 mod walk;
 
+pub use acts::{decided, known_by};
+pub use known::{Fact, Known, Target};
+pub use numbers::{fits, number_of};
+pub use registers::Knowns;
 pub use site::Site;
+pub use stores::target_scalar;
 pub use walk::initialiser;
