@@ -1,3 +1,4 @@
 pub mod Among
 pub mod Files
+pub mod Parts
 pub mod Turns

@@ -1,0 +1,20 @@
+use Rattle.std.proofs.Common.{sym, ap, ◌∙◌, subst}
+use Rattle.cf_classes.specs.ClassTable.{ClassTable}
+use Rattle.cf_classes.specs.Fit.{Fit}
+use Rattle.cc_whole.specs.Plain.{items_of}
+use Rattle.cf_lower_types.specs.Ordered.{IsOrdered}
+use Rattle.cf_lowerable_names.proofs.Parts.{are_lowered}
+use Rattle.cf_lowerable_names.proofs.lowered.names_are_lowered_in.Goals as goal
+
+pub new-tables-requires : goal.new-tables-requires
+new-tables-requires c = record {
+  ordered = subst (λ t. IsOrdered t) (sym c.types.ensures) c.requires.ordered;
+  fit = subst (λ k. Fit c.types.result.now k) (sym c.classes.ensures) (subst (λ t. Fit t c.args.unit.now.classes) (sym c.types.ensures) c.functions-functions.ensures.valid.fit);
+  no_classes = ap (λ (k : ClassTable). k.defined) c.classes.ensures ∙ c.requires.no_classes;
+}
+
+pub returns : goal.returns
+returns c =
+    are_lowered c.args.unit.now c.new-tables.result c.types.result.now c.classes.result.now c.functions-functions.result.now c.statics-statics.result.now
+    c.functions-functions.ensures.functions c.statics-statics.ensures c.types.ensures c.classes.ensures c.new-tables.ensures
+    (items_of c.as_slice-items.result.now) (ap items_of c.as_slice-items.ensures ∙ c.requires.lowered) c.in_ok-fit.fit c.in_ok-fit.ensures
