@@ -1,7 +1,8 @@
--- How the elements of an array are initialised one by one (8.4.1), and a char array by a string (8.4.2).
+-- How the elements of an array are initialised one by one (8.4.1), and an array of characters by a string (8.4.2).
 use Rattle.std.proofs.Common.{◌≡◌, ◌∙◌, ℕ, zero, suc, ◌+◌, ◌-◌, ◌<◌, ◌≤◌, Bool, true, false, List, [], ◌∷◌, length, map, Some, Result, Ok, Err, Bor, refl, ap, sym, subst, arith, true≢false, nat_lt}
 use Rattle.std.specs.Prelude.{◌&&◌, ◌||◌, nat_le}
 use Rattle.std.proofs.lemmas.Bool.Decides.{nat_tests}
+use Rattle.cf_base.specs.declared.kind.Kind.{Kind}
 use Rattle.cf_base.specs.World.{World, Went}
 use Rattle.cf_core.specs.FromTypes.{Tables}
 use Rattle.cf_core.specs.Types.{SourceType, void, integer, enumeration, class, pointer, reference, array, takes, gives as gives_type, data_member, function_member, const, is_array, is_class, plain, element}
@@ -11,7 +12,7 @@ use Rattle.cf_core.specs.Places.{Place, inner, bound}
 use Rattle.cf_core.specs.Store.{Value, Built}
 use Rattle.cf_core.specs.Run.{State, Malformed, Act, ◌>>=◌, ◌>>◌, gives, done, valid, when, for_each}
 use Rattle.cf_core.specs.Access.{place_type, fill_zeros}
-use Rattle.cf_core.specs.Objects.{settle, settled, element_part, element_count, begin_list, end_list, costs_tick, any_costs, one_tick, count, write_bytes}
+use Rattle.cf_core.specs.Objects.{settle, settled, element_part, element_count, begin_list, end_list, costs_tick, any_costs, one_tick, count, character_kind, write_bytes}
 use Rattle.cf_core.specs.Calls.{full_expression}
 use Rattle.cf_core.specs.Expressions.{value, elements}
 use Rattle.cf_run_tree.specs.declared.node.Node.{Node, ind-Node, roll-Node}
@@ -29,7 +30,7 @@ use Rattle.cf_core_objects.specs.Answer.{Stopped}
 use Rattle.cf_core_objects.specs.Site.{Counted, HasElements, HasNone}
 use Rattle.cf_core_objects.specs.Then.{◌▷◌}
 use Rattle.cf_core_objects.proofs.ThenLaws.{then-assoc, then-same}
-use Rattle.cf_core_run.specs.Going.{again, valued, full, cores, one_element, elements_from, listing, listing_with, go_element}
+use Rattle.cf_core_run.specs.Going.{again, valued, full, cores, one_element, elements_from, listing, listing_with, go_element, writing}
 use Rattle.cf_core_run.specs.declared.mark.Listing.{Listing}
 use Rattle.cf_core_objects.specs.declared.filling.Array.{Array}
 use Rattle.cf_core_place.specs.declared.goal.Goal.{Goal}
@@ -201,16 +202,17 @@ module _ (T : Tables) (p : Program) (k : ℕ) (q : Place) (S : State) (w : World
 
   -- a string
   abbrev string_rest : List ℕ → Act Value
-  string_rest bytes = fill_zeros [] q >> (write_bytes q 0 bytes >> gives Built)
+  string_rest bytes = fill_zeros [] q >> (write_bytes (character_kind (place_type [] S q)) q 0 bytes >> gives Built)
 
   abbrev string_whole : Bool → List ℕ → Act Value
   string_whole b bytes = valid b >> string_rest bytes
 
-  pub string-goes : (bytes : List ℕ) (n : ℕ) → HasElements (place_type [] S q) n → nat_le (length bytes) n ≡ true
-      → valued T p k (string bytes) (Some q) S w ≡ string_rest bytes S w
-  string-goes bytes n h le =
+  pub string-goes : (bytes : List ℕ) (n : ℕ) (kind : Kind) → HasElements (place_type [] S q) n → nat_le (length bytes) n ≡ true → character_kind (place_type [] S q) ≡ kind
+      → valued T p k (string bytes) (Some q) S w ≡ writing T p kind q bytes S w
+  string-goes bytes n kind h le is =
       let t = place_type [] S q in
       ap (λ (b : Bool). string_whole b bytes S w) (ap (λ (x : Bool). x && nat_le (length bytes) (element_count [] t)) h.array ∙ ap (nat_le (length bytes)) h.count ∙ le)
+      ∙ ap (λ (kind : Kind). writing T p kind q bytes S w) is
 
   pub string-many : (bytes : List ℕ) (n : ℕ) → HasElements (place_type [] S q) n → nat_le (length bytes) n ≡ false
       → valued T p k (string bytes) (Some q) S w ≡ Went Malformed w

@@ -1,5 +1,6 @@
 -- What a state of the runner means: the rest of the run.
 use Rattle.std.specs.Prelude.{◌≡◌, bytes_eq, codes, ℕ, zero, suc, ◌-◌, Bool, true, false, List, [], ◌∷◌, ◌++◌, reverse, map, option_map, ℤ, Option, Some, None, Result, Ok, Err}
+use Rattle.cf_base.specs.declared.kind.Kind.{Kind}
 use Rattle.cf_base.specs.Event.{Event, Enter, In, Out, End, Ended, Ticks, Depth, Undefined}
 use Rattle.cf_base.specs.World.{World, Ran, and_then, Outcome}
 use Rattle.cf_core.specs.FromTypes.{Tables}
@@ -219,11 +220,11 @@ module _ (T : Tables) (p : Program) where
   naming name t = name_function (program_of T p) name t >> gives (Code name)
 
   -- an array of zeros gets these bytes, or a place its zeros
-  abbrev pub putting_bytes : Place → List ℕ → Act Value
-  putting_bytes q bytes = write_bytes q 0 bytes >> gives Built
+  abbrev pub putting_bytes : Kind → Place → List ℕ → Act Value
+  putting_bytes k q bytes = write_bytes k q 0 bytes >> gives Built
 
-  abbrev pub writing : Place → List ℕ → Act Value
-  writing q bytes = fill_zeros [] q >> putting_bytes q bytes
+  abbrev pub writing : Kind → Place → List ℕ → Act Value
+  writing k q bytes = fill_zeros [] q >> putting_bytes k q bytes
 
   abbrev pub zeroing : Place → Act Value
   zeroing q = fill_zeros [] q >> gives Built

@@ -13,8 +13,10 @@ ghost use Rattle.cf_core_run.specs.Nearer.{weight, weights, whole_array, so_many
 
 use crate::mark::{Doing, Listing, Mark, ValueMark};
 use crate::state::{Machine, Step};
-use cf_base::Boxed;
-use cf_core_objects::{Array, Stop, Value, elements, fill_zeros, settle, write_bytes};
+use cf_base::{Boxed, Kind};
+use cf_core_objects::{
+    Array, Stop, Value, character_kind, elements, fill_zeros, settle, write_bytes,
+};
 use cf_core_place::{Goal, Row};
 use cf_run_tree::Node;
 
@@ -156,7 +158,7 @@ impl<'a> Machine<'a> {
         }
     }
 
-    /// A char array is initialised by these bytes (8.4.2).
+    /// An array of characters is initialised by these bytes (8.4.2).
     pub fn characters(&mut self, bytes: &'a [u8], into: Option<Goal>) -> Result<Step<'a>, Stop>
         ensures comes { (p : Program) → Comes p (λ T o. from_value T p self.old (valued T p self.old.fuel (cores.string bytes.now) (option_map goal_place into)) o) result self.new }
         ensures ticks { self.new.ticks ≡ self.old.ticks }
@@ -168,7 +170,7 @@ impl<'a> Machine<'a> {
         }
     }
 
-    /// The char array that these bytes initialise.
+    /// The array of characters that these bytes initialise.
     fn string(&mut self, bytes: &'a [u8], goal: Goal) -> Result<Step<'a>, Stop>
         ensures comes { (p : Program) → Comes p (λ T o. from_value T p self.old (valued T p self.old.fuel (cores.string bytes.now) (Some (goal_place goal))) o) result self.new }
         ensures ticks { self.new.ticks ≡ self.old.ticks }
@@ -180,7 +182,7 @@ impl<'a> Machine<'a> {
         }
     }
 
-    /// The char array has so many elements.
+    /// The array of characters has so many elements.
     fn string_of(&mut self, bytes: &'a [u8], array: Array) -> Result<Step<'a>, Stop>
         requires { (T : Tables) → HasElements (place_type [] (state_of T self.old.entered self.old.objects) (row_place array.row)) array.count }
         ensures comes { (p : Program) → Comes p (λ T o. from_value T p self.old (valued T p self.old.fuel (cores.string bytes.now) (Some (row_place array.row))) o) result self.new }
@@ -188,33 +190,34 @@ impl<'a> Machine<'a> {
         ensures within { (p : Program) → onward p result self.new ≤ 1 + marks_left self.old.stack.items }
     {
         if fits(bytes.len(), array.count) {
-            self.write(bytes, array.row)
+            let kind = character_kind(&self.objects, array.row);
+            self.write(bytes, kind, array.row)
         } else {
             Err(Stop::Malformed)
         }
     }
 
-    /// Zeros come into a char array, and then the bytes of a string.
-    fn write(&mut self, bytes: &'a [u8], row: Row) -> Result<Step<'a>, Stop>
+    /// Zeros come into an array of characters of this kind, and then the bytes of a string.
+    fn write(&mut self, bytes: &'a [u8], kind: Kind, row: Row) -> Result<Step<'a>, Stop>
         requires { length bytes.now < 2 ^ 32 }
-        ensures comes { (p : Program) → Comes p (λ T o. from_value T p self.old (writing T p (row_place row) bytes.now) o) result self.new }
+        ensures comes { (p : Program) → Comes p (λ T o. from_value T p self.old (writing T p kind (row_place row) bytes.now) o) result self.new }
         ensures ticks { self.new.ticks ≡ self.old.ticks }
         ensures within { (p : Program) → onward p result self.new ≤ 1 + marks_left self.old.stack.items }
     {
         match fill_zeros(&mut self.objects, row.place()) {
             Err(stop) => Err(stop),
-            Ok(()) => self.put_bytes(bytes, row),
+            Ok(()) => self.put_bytes(bytes, kind, row),
         }
     }
 
-    /// The bytes of a string come into an array of zeros.
-    fn put_bytes(&mut self, bytes: &'a [u8], row: Row) -> Result<Step<'a>, Stop>
+    /// The bytes of a string come into an array of zeros, as characters of this kind.
+    fn put_bytes(&mut self, bytes: &'a [u8], kind: Kind, row: Row) -> Result<Step<'a>, Stop>
         requires { length bytes.now < 2 ^ 32 }
-        ensures comes { (p : Program) → Comes p (λ T o. from_value T p self.old (putting_bytes T p (row_place row) bytes.now) o) result self.new }
+        ensures comes { (p : Program) → Comes p (λ T o. from_value T p self.old (putting_bytes T p kind (row_place row) bytes.now) o) result self.new }
         ensures ticks { self.new.ticks ≡ self.old.ticks }
         ensures within { (p : Program) → onward p result self.new ≤ 1 + marks_left self.old.stack.items }
     {
-        match write_bytes(&mut self.objects, row, bytes) {
+        match write_bytes(&mut self.objects, kind, row, bytes) {
             Err(stop) => Err(stop),
             Ok(()) => {
                 self.doing = Doing::Gives(Value::Built);
