@@ -135,7 +135,7 @@ module _ (again : Again) (P : Program) where
       valid (is_array t)
       for_each 0 (element_count P.classes t) (λ i.
           one_tick (costs_tick e P.classes (element (plain t)))
-          >> settled P.classes (inner (item i) p) (full_expression again P (value e (Some (inner (item i) p)))))
+          >> full_expression again P (settled P.classes (inner (item i) p) (value e (Some (inner (item i) p)))))
       gives Built
     value (list es rest) into = do
       p ← built_at into
@@ -148,7 +148,7 @@ module _ (again : Again) (P : Program) where
       for_each (count es) (n - count es) (λ i.
           let q = inner (element_part t i) p in
           one_tick (is_array t && costs_tick rest P.classes (element (plain t)))
-          >> settled P.classes q (full_expression again P (value rest (Some q))))
+          >> full_expression again P (settled P.classes q (value rest (Some q))))
       when (is_class t) (end_list p) done
       gives Built
     value (string bytes) into = do
@@ -201,5 +201,5 @@ module _ (again : Again) (P : Program) where
     elements (more e es) i p t =
         let q = inner (element_part t i) p in
         one_tick (is_array t && costs_tick e P.classes (element (plain t)))
-        >> settled P.classes q (full_expression again P (value e (Some q)))
+        >> full_expression again P (settled P.classes q (value e (Some q)))
         >> elements es (suc i) p t

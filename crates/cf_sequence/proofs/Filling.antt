@@ -164,14 +164,14 @@ module _ (again : calling.Again) (again' : running.Again) (P : Program) where
   plain_text k a b p bytes = valid a >> (valid b >> (fill_zeros P.classes p >> (write_bytes k p 0 bytes >>= (λ u. gives Nothing))))
 
   core-text : (k : Kind) (p q : Place) (bytes : List ℕ) (s : State) (w : World)
-      → and_then (and_then (core_text k true p bytes (with_frame (record s.frame { temporaries = [] }) s) w) (on (closing again P s.frame.temporaries))) (on (settle P.classes q))
+      → and_then (and_then (core_text k true p bytes (with_frame (record s.frame { temporaries = [] }) s) w) (on (settle P.classes q))) (on (closing again P s.frame.temporaries))
       ≡ Went (Gives tt (written k p 0 bytes (zeroed P.classes p s))) w
   core-text k p q bytes s w =
       let e0 : Frame = record s.frame { temporaries = [] } in
       let z : State = zeroed P.classes p s in
       let u : State = written k p 0 bytes (with_frame e0 z) in
-      ap (λ r. and_then (and_then (and_then r (on (λ u. gives Built))) (on (closing again P s.frame.temporaries))) (on (settle P.classes q))) (written-run k p 0 bytes (with_frame e0 z) w)
-      ∙ ap (λ r. and_then r (on (settle P.classes q))) (closed again P s.frame u w Built (written-frame k p 0 bytes (with_frame e0 z)))
+      ap (λ r. and_then (and_then (and_then r (on (λ u. gives Built))) (on (settle P.classes q))) (on (closing again P s.frame.temporaries))) (written-run k p 0 bytes (with_frame e0 z) w)
+      ∙ closed again P s.frame u w tt (written-frame k p 0 bytes (with_frame e0 z))
       ∙ ap (λ t. Went (Gives tt (with_frame s.frame t)) w) (written-framed k p 0 bytes z e0)
       ∙ ap (λ f. Went (Gives tt (with_frame f (written k p 0 bytes z))) w) (sym (written-frame k p 0 bytes z))
 
@@ -189,14 +189,14 @@ module _ (again : calling.Again) (again' : running.Again) (P : Program) where
       let s0 : State = with_frame (record s.frame { temporaries = [] }) s in
       let parts = both (is_array t) (nat_le (length bytes) (element_count P.classes t)) e in
       both_fill
-      (ap (λ b. and_then (and_then (core_text k b p bytes s0 w) (on (closing again P s.frame.temporaries))) (on (settle P.classes p))) e ∙ core-text k p p bytes s w)
+      (ap (λ b. and_then (and_then (core_text k b p bytes s0 w) (on (settle P.classes p))) (on (closing again P s.frame.temporaries))) e ∙ core-text k p p bytes s w)
       (λ h n f at.
       at-place (λ p. λ s w. plain_text (character_kind (place_type P.classes s p)) (is_array (place_type P.classes s p)) (nat_le (length bytes) (element_count P.classes (place_type P.classes s p))) p bytes s w) (h n) p at (with_frame f s) w
       ∙ ap (λ b. plain_text k b (nat_le (length bytes) (element_count P.classes t)) p bytes (with_frame f s) w) parts.0
       ∙ ap (λ b. plain_text k true b p bytes (with_frame f s) w) parts.1 ∙ plain-text k p bytes s f w)
   text-fills p bytes s w false e =
       let s0 : State = with_frame (record s.frame { temporaries = [] }) s in
-      malformed_there (ap (λ b. and_then (and_then (core_text (character_kind (place_type P.classes s p)) b p bytes s0 w) (on (closing again P s.frame.temporaries))) (on (settle P.classes p))) e)
+      malformed_there (ap (λ b. and_then (and_then (core_text (character_kind (place_type P.classes s p)) b p bytes s0 w) (on (settle P.classes p))) (on (closing again P s.frame.temporaries))) e)
 
   pub fills : (e : Core) → is_filling e ≡ true → (p : Place) (s : State) (w : World) → Fills e p s w
   fills core.zeros ok p s w =

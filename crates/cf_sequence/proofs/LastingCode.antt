@@ -230,10 +230,10 @@ module _ (again : calling.Again) (P : Program) (classless : P.classes ≡ []) (r
 
   -- an initialiser of a place, as a full expression of its own
   pub settled-keeps : (base : List ℕ) (e : Core) (p : Place) → Keeps (L base) (meaning.value again P e (Some p))
-      → Keeps (L base) (full_expression again P (meaning.value again P e (Some p)) >>= settle P.classes p)
+      → Keeps (L base) (full_expression again P (meaning.value again P e (Some p) >>= settle P.classes p))
   settled-keeps base e p k =
-      keeps-then (L base) (full_expression again P (meaning.value again P e (Some p))) (settle P.classes p) (keeps-full m before base again P classless (meaning.value again P e (Some p)) k)
-      (keeps-settle m before base P.classes p)
+      keeps-full m before base again P classless (meaning.value again P e (Some p) >>= settle P.classes p)
+      (keeps-then (L base) (meaning.value again P e (Some p)) (settle P.classes p) k (keeps-settle m before base P.classes p))
 
   -- ---- lists
 
@@ -243,7 +243,7 @@ module _ (again : calling.Again) (P : Program) (classless : P.classes ≡ []) (r
 
   -- one element, by itself
   pub item-keeps : (base : List ℕ) (tick_first : Bool) (e : Core) (q : Place) → Keeps (L base) (meaning.value again P e (Some q))
-      → Keeps (L base) (one_tick tick_first >> (full_expression again P (meaning.value again P e (Some q)) >>= settle P.classes q))
+      → Keeps (L base) (one_tick tick_first >> full_expression again P (meaning.value again P e (Some q) >>= settle P.classes q))
   item-keeps base tick_first e q k =
       keeps-next (L base) (one_tick tick_first) _ (keeps-when (L base) tick_first tick done (keeps-tick (L base)) (keeps-gives (L base) tt)) (settled-keeps base e q k)
 
@@ -330,11 +330,11 @@ module _ (again : calling.Again) (P : Program) (classless : P.classes ≡ []) (r
     where
       by : (o : Option Place) → Keeps (L base) (elim o as (λ _. Act Value) [
         | None ↦ full_expression again P (meaning.value again P e None >>= used)
-        | Some p ↦ (full_expression again P (meaning.value again P e (Some p)) >>= settle P.classes p) >> gives Built
+        | Some p ↦ full_expression again P (meaning.value again P e (Some p) >>= settle P.classes p) >> gives Built
       ])
       by None = used-full base e ok
       by (Some p) =
-          keeps-next (L base) (full_expression again P (meaning.value again P e (Some p)) >>= settle P.classes p) (gives Built)
+          keeps-next (L base) (full_expression again P (meaning.value again P e (Some p) >>= settle P.classes p)) (gives Built)
           (settled-keeps base e p (value-keeps base e ok (Some p))) (keeps-gives (L base) Built)
 
   mutual

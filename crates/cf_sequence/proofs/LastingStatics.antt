@@ -43,7 +43,7 @@ module _ (again : calling.Again) (P : Program) (classless : P.classes ≡ []) (r
       >> (meaning.elements again P es 0 p t
       >> (for_each (count es) (element_count P.classes t - count es) (λ i.
       one_tick (is_array t && costs_tick rest P.classes (element (plain t)))
-      >> (full_expression again P (meaning.value again P rest (Some (inner (element_part t i) p))) >>= settle P.classes (inner (element_part t i) p)))
+      >> full_expression again P (meaning.value again P rest (Some (inner (element_part t i) p)) >>= settle P.classes (inner (element_part t i) p)))
       >> (when is_made (end_list p) done >> gives Built))))
 
   list-of : (t : SourceType) (es : Cores) (rest : Core) (p : Place) → is_array t ≡ true → is_filling rest ≡ true → Keeps Q (meaning.elements again P es 0 p t) → Keeps Q (core_list es rest p t false)

@@ -16,10 +16,9 @@ use Rattle.cf_core.specs.Run.{State, Frame, Did, Gives, Exits, Malformed, Act, �
 use Rattle.cf_core.specs.Access.{place_type, used, name_part}
 use Rattle.cf_core.specs.Pointers.{element_of, route_of, up_to, moved_place}
 use Rattle.cf_core.specs.Scalars.{indexed, decayed}
-use Rattle.cf_core.specs.Objects.{settle, element_part, element_count, count, costs_tick, any_costs}
+use Rattle.cf_core.specs.Objects.{element_part, element_count, count, costs_tick, any_costs}
 use Rattle.cf_core.specs.Calls as calling
-use Rattle.cf_core.specs.Calls.{Program, function_named, full_expression}
-use Rattle.cf_core.specs.Expressions as meaning
+use Rattle.cf_core.specs.Calls.{Program, function_named}
 use Rattle.cf_plain.specs.Plain.{Register, Plains, act, set, leave, nothing, more}
 use Rattle.cf_plain.specs.Plain as plain
 use Rattle.cf_plain.specs.Acts.{Registers}
@@ -35,10 +34,9 @@ use Rattle.cf_sequence.proofs.Calling.{Bodies, never, or-else}
 use Rattle.cf_sequence.proofs.Kept.{Kept, kept-all, Ready, added-two, keep-same, keep-other}
 use Rattle.cf_sequence.proofs.PlainSteps.{runs_on, set-steps, at-one, at-two}
 use Rattle.cf_sequence.proofs.Operands.{H}
-use Rattle.cf_sequence.proofs.Parts.{first-steps, value-gives}
 use Rattle.cf_sequence.proofs.Silent.{all-append, Silent, silent-none, silent-set, silent-act, silent-loop, silent-then, silent-settled, silent-whole, silent-by}
 use Rattle.cf_sequence.proofs.Filling.{filling-initial, fill, started-is, filled-steps}
-use Rattle.cf_sequence.proofs.Fulls.{nothing-is, full-steps}
+use Rattle.cf_sequence.proofs.Fulls.{nothing-is, settled-steps}
 use Rattle.cf_sequence.proofs.Standing.{settled_full}
 use Rattle.cf_sequence.proofs.Lasting.{Keeps, Newer, Lasting}
 use Rattle.cf_sequence.proofs.LastingCode.{Rests, initial-keeps, settled-keeps}
@@ -187,7 +185,7 @@ silent-initial again H P t e ok n k =
     (λ fills. silent-by again H (started P.classes t e n k) (λ rest. more (act (fill e n)) rest) (started-is P.classes t e fills n k) (silent-act again H (fill e n)))
     (λ starts. or-else (is_nothing e) (is_value e) starts
     (λ blank. silent-by again H (started P.classes t e n k) (λ rest. rest) (λ rest. ap (λ e. started P.classes t e n k rest) (nothing-is e blank)) (silent-none again H))
-    (λ is. silent-whole again H P e is (suc n) k (destination n t) (λ m rest. rest) (λ m rest. settled e n m rest) (λ m. silent-none again H) (λ m. silent-settled again H e n m)))
+    (λ is. silent-whole again H P e is (suc n) k (destination n t) (λ m rest. settled e n m rest) (λ m rest. rest) (λ m. silent-settled again H e n m) (λ m. silent-none again H)))
 
 -- lists have no label either
 module _ (again : running.Again) (H : Program) (P : Program) where
@@ -272,12 +270,7 @@ module _ (again : calling.Again) (again' : running.Again) (P : Program) (bodies 
       (λ blank. subst (λ e. Follows S (and_then (settled_full again P q e s w) (on c)) (runs_on again' (H again again' P) (started P.classes u e n k rest) h K (with_frame f s) w)) (sym (nothing-is e blank))
       (next s h f w refl (kept-all k f) (λ j lt. refl)))
       (λ is.
-      pull (full_expression again P (meaning.value again P e (Some q)) s w) (settle P.classes q) c _
-      (full-steps again again' P bodies chains classless A B S e is (Some q) (destination n u) (suc n) k (λ m. settled e n m rest) h s f w (λ v. settle P.classes q v >>= c) K ready room (λ v t h1 f1 w1 done.
-      subst (λ b. Follows S (and_then (settle P.classes q v t w1) (on c))
-      (runs_on again' (H again again' P) (if b then rest else more (act (plain.first n (suc n + width e))) rest) h1 K (with_frame f1 t) w1)) (sym (value-gives again again' P bodies chains A B S e is))
-      (first-steps again again' P bodies chains A B S n (suc n + width e) q v h1 rest c K t f1 w1
-      (done.below n (omega arith) ∙ at) done.value (λ t1 same. next t1 h1 f1 w1 (same ∙ done.frame) done.kept done.below))))))
+      settled-steps again again' P bodies chains classless A B S e is u n k q rest h s f w c K at ready room next))
 
 -- it has run on both sides
 record Ran_on (s : State) (f : Frame) (n : Register) (k : ℕ) (h : Registers) (u : Unit {0}) (t : State) (flow : Flow) (z : State) : Type 0 where

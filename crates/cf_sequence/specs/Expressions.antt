@@ -217,8 +217,8 @@ module _ (classes : List Class) where
         (elements x es d 0 n k
         (repeated (count es) (parts_count d.type - count es) (λ i rest.
         in_turn (is_array d.type && costs_tick last classes u) (λ rest. part_in n d.register d.type i
-        (whole last (suc n) (k + width_all es) (λ y m rest. value y last (destination n (part_type d.type i)) m (k + width_all es) rest)
-        (λ m. settled last n m rest))) rest)
+        (whole last (suc n) (k + width_all es) (λ y m rest. value y last (destination n (part_type d.type i)) m (k + width_all es) (settled last n m rest))
+        (λ m. rest))) rest)
         (built d rest)))
     value x (core.string bytes) (Some d) n k rest = more (act (plain.bytes d.register bytes)) rest
     value x core.zeros (Some d) n k rest = more (act (plain.zeros d.register)) rest
@@ -234,7 +234,7 @@ module _ (classes : List Class) where
     elements x none d i n k rest = rest
     elements x (core.more e es) d i n k rest =
         in_turn (is_array d.type && costs_tick e classes (part_type d.type i)) (λ rest. part_in n d.register d.type i
-        (whole e (suc n) k (λ y m rest. value y e (destination n (part_type d.type i)) m k rest) (λ m. settled e n m rest)))
+        (whole e (suc n) k (λ y m rest. value y e (destination n (part_type d.type i)) m k (settled e n m rest)) (λ m. rest)))
         (elements x es d (suc i) n (k + width e) rest)
 
     -- an expression's parts in order; the last one's value stays (5.18)

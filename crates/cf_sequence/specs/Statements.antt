@@ -59,9 +59,9 @@ abbrev pub stepped : List Class → MaybeCore → ℕ → Plains
 stepped classes absent k = nothing
 stepped classes (given e) k = whole e 0 k (λ x n rest. value classes x e None n k rest) (λ n. nothing)
 
--- an initialiser of the place in register n, as a full expression of its own
+-- an initialiser of the place in register n, as a full expression of its own, in which its value is stored
 abbrev pub started : List Class → SourceType → Core → Register → ℕ → Plains → Plains
-started classes t e n k rest = whole e (suc n) k (λ x m rest. value classes x e (destination n t) m k rest) (λ m. settled e n m rest)
+started classes t e n k rest = whole e (suc n) k (λ x m rest. value classes x e (destination n t) m k (settled e n m rest)) (λ m. rest)
 
 -- A static object is reached, and then initialised (6.7).
 abbrev pub initialised : List Class → SourceType → Name → Core → ℕ → Plains → Plains

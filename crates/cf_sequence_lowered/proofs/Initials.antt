@@ -66,8 +66,8 @@ module _ (T : Action → Type 0) (L : List ℤ → Type 0) (U : Core → Type 0)
       (λ starts. or-else (is_nothing e) (is_value e) starts
       (λ blank. fine-by T L B d (started classes t e n k) (λ rest. rest) (λ rest. ap (λ e. started classes t e n k rest) (nothing-is e blank)) (fine-none T L B d))
       (λ is.
-      fine-whole d e is u (suc n) k (let a = Space.registers s in let b = Space.width s in omega arith) (Space.behind s) (λ m rest. rest) (λ m. settled e n m) (λ m low. fine-none T L B d)
-      (λ m low. fine-settled T L B d e n m (suits.neutral (plain.first n m) refl)) (destination n t)))
+      fine-whole d e is u (suc n) k (let a = Space.registers s in let b = Space.width s in omega arith) (Space.behind s) (λ m. settled e n m) (λ m rest. rest)
+      (λ m low. fine-settled T L B d e n m (suits.neutral (plain.first n m) refl)) (λ m low. fine-none T L B d) (destination n t)))
 
   -- ---- lists
 
@@ -183,8 +183,7 @@ module _ (T : Action → Type 0) (L : List ℤ → Type 0) (U : Core → Type 0)
             let b = Space.width s in
             let x : Full = record { first = k; base = 1 } in
             let ts : List Temporary = temporaries false e k in
-            let bound : Plains → Plains = λ rest. more (act (plain.first 0 n)) rest in
-            let last : Plains → Plains = λ rest. ended x (reverse ts) (bound rest) in
+            let last : Plains → Plains = λ rest. more (act (plain.first 0 n)) (ended x (reverse ts) rest) in
             let inside : Plains → Plains = λ rest. value classes x e (destination (suc n) v) (suc (suc n)) k (settled e (suc n) (suc (suc n)) (last rest)) in
             let named : Plains → Plains = λ rest. more (set n (plain.local j)) (inside rest) in
             let r : Room B p x (suc (suc n)) k (nodes e) = record { registers = omega arith; flags = omega arith; begun = omega arith; behind = Space.behind s } in
@@ -194,8 +193,8 @@ module _ (T : Action → Type 0) (L : List ℤ → Type 0) (U : Core → Type 0)
             (fine-then T L B d (value classes x e (destination (suc n) v) (suc (suc n)) k) (λ rest. settled e (suc n) (suc (suc n)) (last rest))
             (good-value T L U B p suits classes e is u.1 d x (destination (suc n) v) (suc (suc n)) k r)
             (fine-then T L B d (settled e (suc n) (suc (suc n))) last (fine-settled T L B d e (suc n) (suc (suc n)) (suits.neutral (plain.first (suc n) (suc (suc n))) refl))
-            (fine-then T L B d (ended x (reverse ts)) bound (fine-ended T L U B p suits d x (reverse ts) (ends-reversed T L U B p suits e is u.1 x (suc (suc n)) k r))
-            (fine-act T L B d (plain.first 0 n) (suits.neutral (plain.first 0 n) refl)))))));
+            (fine-then T L B d (λ rest. more (act (plain.first 0 n)) rest) (ended x (reverse ts)) (fine-act T L B d (plain.first 0 n) (suits.neutral (plain.first 0 n) refl))
+            (fine-ended T L U B p suits d x (reverse ts) (ends-reversed T L U B p suits e is u.1 x (suc (suc n)) k r)))))));
       }
   starts-held i t e ok u = never ok
 

@@ -333,7 +333,7 @@ module _ (g : ℕ → ℕ) where
         (λ blank. light-more 0 (nodes_weight (nodes e)) (started classes t e n k) (omega arith)
         (light-by 0 (started classes t e n k) (λ rest. rest) (λ rest. ap (λ e. started classes t e n k rest) (nothing-is e blank)) light-none))
         (λ is. light-more (nodes_weight (nodes e) + 0) (nodes_weight (nodes e)) (started classes t e n k) (omega arith)
-        (light-whole e is (suc n) k 0 (λ m rest. rest) (λ m. settled e n m) (λ m. light-none) (λ m. light-settled e n m) (destination n t))))
+        (light-whole e is (suc n) k 0 (λ m. settled e n m) (λ m rest. rest) (λ m. light-settled e n m) (λ m. light-none) (destination n t))))
 
     light-part : (n q : Register) (t : SourceType) (i : ℕ) → Light 0 (part_in n q t i)
     light-part n q t i = by (is_array t)
@@ -420,13 +420,14 @@ module _ (g : ℕ → ℕ) where
         let ts : List Temporary = temporaries false e k in
         record {
           light = λ rest.
-              let bound = more (act (plain.first 0 n)) rest in
-              let last = ended x (reverse ts) bound in
+              let after = ended x (reverse ts) rest in
+              let last = more (act (plain.first 0 n)) after in
               let inside = value classes x e (destination (suc n) v) (suc (suc n)) k (settled e (suc n) (suc (suc n)) last) in
               let a = Light.light (light-flags x ts) (more (set (suc n) (plain.declare j v)) (more (set n (plain.local j)) inside)) in
               let b = Light.light (light-value e is x (destination (suc n) v) (suc (suc n)) k) (settled e (suc n) (suc (suc n)) last) in
               let c = Light.light (light-settled e (suc n) (suc (suc n))) last in
-              let d = Light.light (light-ended x (reverse ts)) bound in
+              let d = Light.light (light-act (plain.first 0 n)) after in
+              let g = Light.light (light-ended x (reverse ts)) rest in
               omega arith;
         }
     light-held i e ok t k = never ok

@@ -113,7 +113,7 @@ unfoldable pub started : Initial → Piece → ℕ → ℕ → Writing → Writi
 started does_nothing p t n w = w
 started (fills a) p t n w = act (a n) w
 started (lists f) p t n w = f t n (behind_flags (suc n) p) w
-started gives p t n w = act (action.First n (behind_flags (suc n) p)) (left_behind (suc n) p w (entered (suc n) p w))
+started gives p t n w = left_behind (suc n) p w (act (action.First n (behind_flags (suc n) p)) (entered (suc n) p w))
 
 -- The place of the element of this number comes into register m: that of its array is in register n (8.4.1).
 unfoldable pub element_placed : ℕ → ℕ → ℕ → Writing → Writing

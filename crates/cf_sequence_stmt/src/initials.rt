@@ -26,7 +26,7 @@ fn is_blank(e: &Core) -> bool
     matches!(e, Core::Blank { .. })
 }
 
-/// Writes the initialiser of the place in this register that gives this value.
+/// Writes the initialiser of the place in this register that gives this value, which is stored before the temporaries end.
 #[tactic(auto, unfolding(crate::specs::Bodies::started, crate::specs::Bodies::left_behind))]
 fn settled(unit: &CoreUnit, e: &Core, ty: TyId, n: u32, w: &mut Writing) -> Result<(), Memory>
     requires { are_known (tables_of unit.now) e.now ≡ true }
@@ -34,11 +34,11 @@ fn settled(unit: &CoreUnit, e: &Core, ty: TyId, n: u32, w: &mut Writing) -> Resu
 {
     let flags = behind(n)?;
     let entered = enter(unit, e, flags, w)?;
-    end_all(entered.full, entered.made.as_slice(), w)?;
     w.act(Action::First {
         place: n,
         value: entered.register,
-    })
+    })?;
+    end_all(entered.full, entered.made.as_slice(), w)
 }
 
 /// Writes the initialiser of an object of this type whose place is in this register: it does nothing, fills the object by itself, starts its

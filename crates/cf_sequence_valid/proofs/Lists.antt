@@ -221,8 +221,7 @@ module _ (body : Body) (locals : List SourceType) (keeps : Kept body.scope local
         code = λ b c f k st.
             let x : Full = record { first = k; base = 1 } in
             let ts : List Temporary = temporaries false e k in
-            let bound : Plains → Plains = λ rest. more (act (plain.first 0 n)) rest in
-            let last : Plains → Plains = λ rest. ended x (reverse ts) (bound rest) in
+            let last : Plains → Plains = λ rest. more (act (plain.first 0 n)) (ended x (reverse ts) rest) in
             let inner : Plains → Plains = λ rest. value f.classes x e (destination (suc n) u) (suc (suc n)) k (settled e (suc n) (suc (suc n)) (last rest)) in
             let named : Plains → Plains = λ rest. more (set n (plain.local j)) (inner rest) in
             fine-then locals (flags x ts) (λ rest. more (set (suc n) (plain.declare j u)) (named rest)) (fine-flags locals x ts)
@@ -231,7 +230,7 @@ module _ (body : Body) (locals : List SourceType) (keeps : Kept body.scope local
             (fine-then locals (value f.classes x e (destination (suc n) u) (suc (suc n)) k) (λ rest. settled e (suc n) (suc (suc n)) (last rest))
             (Good.code (expression-good body locals keeps f e is (as_start u parts.1)) b c x (destination (suc n) u) (suc (suc n)) k st)
             (fine-then locals (settled e (suc n) (suc (suc n))) last (fine-settled locals e (suc n) (suc (suc n)))
-            (fine-then locals (ended x (reverse ts)) bound (fine-ended locals x (reverse ts) (ends-there locals e is k st)) (fine-act locals (plain.first 0 n) refl))))));
+            (fine-then locals (λ rest. more (act (plain.first 0 n)) rest) (ended x (reverse ts)) (fine-act locals (plain.first 0 n) refl) (fine-ended locals x (reverse ts) (ends-there locals e is k st)))))));
       }
   starts-held i t e ok fit = never ok
 
