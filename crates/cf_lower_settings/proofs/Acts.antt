@@ -111,7 +111,7 @@ module _ (P : Program) (function : Name → ℕ) (signature : Name → SourceTyp
     reach-done : (n : Name) → G [] told.parts (acts again P regs (plain.reach n) s w)
     reach-done n = go (static_number P n)
       where
-        go : (x : Option ℕ) → G [] told.parts (((some_or x malformed >>= (λ o. gives (root o))) >> doing (changed (λ s. record s { reached = n ∷ s.reached }))) s w)
+        go : (x : Option ℕ) → G [] told.parts (((some_or x malformed >>= (λ o. gives (root o))) >>= (λ p. changed (λ s. record s { reached = n ∷ s.reached }) >> gives (source.At p))) s w)
         go None = wrong [] told.parts
         go (Some o) = record {
           by = (
@@ -133,10 +133,10 @@ module _ (P : Program) (function : Name → ℕ) (signature : Name → SourceTyp
         go : (x : Option ℕ)
             → G [] told.parts
             (((some_or x malformed >>= (λ o. gives (root o)))
-            >>= (λ p. doing (when (has_destructor P.classes (static_type P n)) (changed (λ s. record s { finished = p.object ∷ s.finished })) done))) s w)
+            >>= (λ p. when (has_destructor P.classes (static_type P n)) (changed (λ s. record s { finished = p.object ∷ s.finished })) done >> gives (source.At p))) s w)
         go None = wrong [] told.parts
         go (Some o) =
-            subst (λ b. G [] told.parts (doing (when b (changed (λ s. record s { finished = o ∷ s.finished })) done) s w)) (sym destructor) (record { by = (refl, nothing-done) })
+            subst (λ b. G [] told.parts ((when b (changed (λ s. record s { finished = o ∷ s.finished })) done >> gives (source.At (root o))) s w)) (sym destructor) (record { by = (refl, nothing-done) })
 
     truth-done : (i : Register) → is_known (g i) ≡ true → G [] told.parts (acts again P regs (plain.truth i) s w)
     truth-done i e = by (regs i) refl

@@ -139,8 +139,14 @@ module _ (again : Again) (P : Program) (g : Registers) where
     new_storage P true (array t n) (λ o. gives (At (inner (item 0) (root o))))
   acts (delete many t r) = used_in g r >>= delete_value again P many t
   acts (is_reached name) = state >>= (λ s. gives (truth_value (list_any (bytes_eq name) s.reached)))
-  acts (reach name) = static_place P name >> doing (changed (λ s. record s { reached = name ∷ s.reached }))
-  acts (finish_static name) = static_place P name >>= (λ p. doing (to_be_destroyed P (static_type P name) p.object))
+  acts (reach name) = do
+    p ← static_place P name
+    changed (λ s. record s { reached = name ∷ s.reached })
+    gives (At p)
+  acts (finish_static name) = do
+    p ← static_place P name
+    to_be_destroyed P (static_type P name) p.object
+    gives (At p)
   acts (call name t object args into) = do
     name_function P name t
     p ← maybe_place g object

@@ -5,19 +5,20 @@ use Rattle.cf_base.proofs.Tests.{both}
 use Rattle.cf_core.specs.Types.{Name, SourceType, parameters, result, is_class}
 use Rattle.cf_core.specs.Classes.{Class}
 use Rattle.cf_core.specs.Core as core
-use Rattle.cf_core.specs.Core.{Core, Cores, MaybeCore, no_temporary, local_temporary, none, absent, given}
+use Rattle.cf_core.specs.Core.{Core, Cores, MaybeCore, no_temporary, local_temporary, static_temporary, none, absent, given}
 use Rattle.cf_core.specs.Places.{is_reference}
 use Rattle.cf_core.specs.Joined.{renamed, renamed_all, renamed_maybe, is_nothing}
 use Rattle.cf_plain.specs.Plain.{Register, Plains, act, set, branch, loop, switch, case_label, default_label, leave, continue, give, nothing, more}
 use Rattle.cf_plain.specs.Plain as plain
 use Rattle.cf_plain.specs.Joined as joined
-use Rattle.cf_sequence.specs.Built.{is_value, are_values, are_arguments, is_chain, is_condition, is_start, is_filling, is_initial, is_held}
+use Rattle.cf_sequence.specs.Built.{is_value, are_values, are_arguments, is_chain, is_condition, is_start, is_filling, is_initial, is_held, is_bound}
 use Rattle.cf_sequence.specs.Made.{Local, Temporary, temporaries, numbers, width}
 use Rattle.cf_sequence.specs.Expressions.{Full, flag, flags, ended, Destination, destination, value, values, arguments, settled, builds, result_register, whole, finished, used}
 use Rattle.cf_sequence.specs.Statements.{condition, held, stepped, started}
 use Rattle.cf_sequence.proofs.Calling.{never, or-else}
 use Rattle.cf_sequence.proofs.Filling.{fill, started-is}
 use Rattle.cf_sequence.proofs.Fulls.{nothing-is, held_at}
+use Rattle.cf_sequence.proofs.Constants.{constant-value}
 use Rattle.cf_sequence.proofs.Renamed.{same-width, same-temporaries, same-builds, same-filling}
 
 module _ (r : Name → Name) where
@@ -225,6 +226,26 @@ module _ (r : Name → Name) where
         ∙ ap (λ us. from (again e) us m (over rest)) (sym (same-temporaries r e is false k))
         ∙ ap (λ w. from (again e) (temporaries false (again e) k) (suc n + w) (over rest)) (sym (same-width r e))
     over-kept i t e ok n k rest = never ok
+
+    -- what binds a static reference
+    pub over-bound : (t : SourceType) (e : Core) → is_bound e ≡ true → (n : Register) (k : ℕ) (rest : Plains) → over (started cs t e n k rest) ≡ started cs t (again e) n k (over rest)
+    over-bound t (core.bind no_temporary e) ok n k rest = over-started t (core.bind no_temporary e) (constant-value e ok) n k rest
+    over-bound t (core.bind (static_temporary name) e) ok n k rest =
+        let is = constant-value e ok in
+        let x : Full = record { first = k; base = suc n } in
+        let ts : List Temporary = temporaries false e k in
+        let from : Core → List Temporary → Register → Plains → Plains = λ e ts m rest.
+        flags x ts (value cs x e None (suc m) k (more (set m (plain.finish_static (r name))) (settled e m (suc m) (more (act (plain.first n m)) (ended x (reverse ts) rest))))) in
+        let m : Register = held_at e n in
+        let last : Plains = more (act (plain.first n m)) (ended x (reverse ts) rest) in
+        over-flags x ts (value cs x e None (suc m) k (more (set m (plain.finish_static name)) (settled e m (suc m) last)))
+        ∙ ap (flags x ts)
+        (over-value e is x None (suc m) k (more (set m (plain.finish_static name)) (settled e m (suc m) last))
+        ∙ ap (λ ss. value cs x (again e) None (suc m) k (more (set m (plain.finish_static (r name))) ss))
+        (over-settled e m (suc m) last ∙ ap (settled (again e) m (suc m)) (ap (more (act (plain.first n m))) (over-ended x (reverse ts) rest))))
+        ∙ ap (λ us. from (again e) us m (over rest)) (sym (same-temporaries r e is false k))
+        ∙ ap (λ w. from (again e) (temporaries false (again e) k) (suc n + w) (over rest)) (sym (same-width r e))
+    over-bound t e ok n k rest = never ok
 
     pub over-condition : (q : Core) → is_value q ≡ true → (k : ℕ) (rest later : Register → Plains) → ((m : Register) → over (rest m) ≡ later m) → over (condition cs q k rest) ≡ condition cs (again q) k later
     over-condition q ok k rest later same = over-whole q ok 0 k None (λ m ss. more (set m (plain.truth m)) ss) (λ m ss. more (set m (plain.truth m)) ss) rest later (λ m ss. refl) same
