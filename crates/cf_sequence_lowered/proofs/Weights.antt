@@ -451,7 +451,7 @@ module _ (g : ℕ → ℕ) where
               let b = Light.light (light-value e is x (destination (suc n) v) (suc (suc n)) k) (settled e (suc n) (suc (suc n)) last) in
               let c = Light.light (light-settled e (suc n) (suc (suc n))) last in
               let d = Light.light (light-act (plain.first 0 n)) after in
-              let g = Light.light (light-ended x (reverse ts)) rest in
+              let h = Light.light (light-ended x (reverse ts)) rest in
               omega arith;
         }
     light-held i e ok t k = never ok
