@@ -5,9 +5,9 @@ use Rattle.cf_base.specs.declared.kind.Kind.TheVariants.{Int}
 use Rattle.cf_base.specs.declared.arith.Arith.TheVariants as op
 use Rattle.cf_base.specs.Event.{Ended, Undefined}
 use Rattle.cf_core.specs.declared.operators.LoopForm.TheVariants as form
-use Rattle.cf_core.specs.Types.{SourceType, class}
+use Rattle.cf_core.specs.Types.{SourceType, class, pointer}
 use Rattle.cf_core.specs.Classes.{Class}
-use Rattle.cf_core.specs.Core.{Core, absent, given, no_parts, Function, this, local, member, read, operate, step, arithmetic, blank, full, sequence, declare, branch, loop, switch, case_label, leave}
+use Rattle.cf_core.specs.Core.{Core, absent, given, no_parts, Function, this, local, member, read, address, dereference, operate, step, arithmetic, temporary, blank, full, sequence, declare, branch, loop, switch, case_label, leave}
 use Rattle.cf_core.proofs.Sample.{int, listed, main_of, program, returns, num, put_code, put_digit, value_of, set, built, plain_class, built_class, nonvirtual_function, constructor_of, destructor_of, Shown, run}
 
 -- struct D{int v;~D(){putchar('d');putchar('0'+v);}}; and struct T{int v;T(int a){v=a;putchar('c');putchar('0'+a);}~T(){..}};
@@ -87,3 +87,13 @@ no_such_local = refl
 -- a label that passes an initialiser, which no accepted program has
 initialiser_is_passed : run_main (switch (num 1) (listed (declare 0 int (num 2) ∷ case_label (pos 1) ∷ [])) ∷ []) ≡ None
 initialiser_is_passed = refl
+
+-- struct P{int*p;int v;P(int*q){p=q;v=5;}~P(){putchar('0'+*p);}};int main(){int y=P(&y).v;return y;}: y has its value before the temporary ends
+value_is_stored_before_temporaries_end :
+    run (program (built_class (codes "1P") [] (pointer int ∷ int ∷ []) (nonvirtual_function (codes "__dt__Fv") (codes "__dt__1PFv") ∷ []) (Some (codes "__dt__1PFv")) ∷ [])
+    (constructor_of (codes "1P") (codes "__ct__1PFPi") (pointer int ∷ []) no_parts (set (member this 0) (value_of 0) ∷ set (member this 1) (num 5) ∷ [])
+    ∷ destructor_of (codes "1P") (codes "__dt__1PFv") (put_digit (read (dereference (read (member this 0)))) ∷ [])
+    ∷ main_of (declare 0 int (read (member (temporary (class (codes "1P")) (built (codes "__ct__1PFPi") (pointer int ∷ []) (address (local 0) ∷ []))) 1))
+    ∷ returns (value_of 0) ∷ []) ∷ []) []) 10
+    ≡ Some (record { end = Ended (pos 5); out = codes "5" })
+value_is_stored_before_temporaries_end = refl

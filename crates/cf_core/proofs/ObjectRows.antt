@@ -1,17 +1,18 @@
 -- Programs with the free store, arrays of objects and static objects, and what each run shows.
 use Rattle.std.proofs.Common.{◌≡◌, ℕ, [], ◌∷◌, refl}
-use Rattle.std.specs.Prelude.{pos, Some, codes}
-use Rattle.cf_base.specs.declared.kind.Kind.TheVariants.{Int, Char}
+use Rattle.std.specs.Prelude.{pos, negsuc, Some, codes}
+use Rattle.cf_base.specs.declared.kind.Kind.{Kind}
+use Rattle.cf_base.specs.declared.kind.Kind.TheVariants.{Int, Char, SChar, UChar}
 use Rattle.cf_base.specs.declared.arith.Arith.TheVariants as op
 use Rattle.cf_base.specs.Event.{Ended, Ticks}
 use Rattle.cf_core.specs.declared.operators.PointerOperator.TheVariants as ptr
 use Rattle.cf_core.specs.declared.operators.LoopForm.TheVariants as form
 use Rattle.cf_core.specs.Types.{SourceType, integer, void, class, pointer, array, const}
 use Rattle.cf_core.specs.Subobjects.{base}
-use Rattle.cf_core.specs.Core.{Core, within, absent, given, no_parts, part, text, this, local, member, read, decay, index, conditional, convert, up, operate, pointer_operate, store, new, new_array, delete, delete_array, each, list, string, zeros, blank, full, declare, once, branch, loop, static_object}
+use Rattle.cf_core.specs.Core.{Core, within, absent, given, no_parts, part, text, this, local, member, read, address, decay, index, conditional, convert, up, operate, pointer_operate, store, new, new_array, delete, delete_array, each, list, string, zeros, blank, full, declare, once, branch, loop, static_object}
 use Rattle.cf_core.specs.Calls.{Program}
 use Rattle.cf_core.specs.Program.{Mean}
-use Rattle.cf_core.proofs.Sample.{int, function_of, listed, in_block, main_of, program, static_of, returns, num, add, put, put_code, value_of, set, called, built, base_of, plain_class, built_class, virtual_function, nonvirtual_function, constructor_of, destructor_of, shown_of, run}
+use Rattle.cf_core.proofs.Sample.{int, function_of, listed, in_block, main_of, program, static_of, returns, num, add, put, put_code, put_digit, value_of, set, called, built, base_of, plain_class, built_class, virtual_function, nonvirtual_function, constructor_of, destructor_of, shown_of, run}
 
 -- struct N{int a[10];};int main(){int i;N*p=0;N*q;for(i=0;i<3;i=i+1){q=new N;putchar(q?'1':'0');if(q)p=q;}
 -- delete p;q=new N;putchar(q?'1':'0');return 0;}
@@ -141,6 +142,35 @@ strings_fill_with_zeros :
     (convert int (read (index (decay (local 0)) (num 3))))) ∷ []) ∷ []) []) 10
     ≡ Some (record { end = Ended (pos 10); out = [] })
 strings_fill_with_zeros = refl
+
+-- int main(){unsigned char s[2]="\310";return s[0];}, and the same with the other kinds of characters
+abbrev byte_of : Kind → Program
+byte_of k = program [] (main_of (declare 0 (array (integer k) 2) (string (200 ∷ [])) ∷ returns (convert int (read (index (decay (local 0)) (num 0)))) ∷ []) ∷ []) []
+
+byte_of_unsigned_char : run (byte_of UChar) 10 ≡ Some (record { end = Ended (pos 200); out = [] })
+byte_of_unsigned_char = refl
+
+byte_of_signed_char : run (byte_of SChar) 10 ≡ Some (record { end = Ended (negsuc 55); out = [] })
+byte_of_signed_char = refl
+
+byte_of_char : run (byte_of Char) 10 ≡ Some (record { end = Ended (negsuc 55); out = [] })
+byte_of_char = refl
+
+-- struct D{D*q;~D(){putchar('0'+(q+0-this));}};int main(){D a[2];a[0].q=&a[1];a[1].q=&a[1];return 0;}: a[1] is destroyed first
+abbrev D : SourceType
+D = class (codes "1D")
+
+abbrev element : ℕ → Core
+element n = index (decay (local 0)) (num n)
+
+destroyed_elements_are_counted :
+    run (program (record (plain_class (codes "1D") [] (pointer D ∷ [])) { destructor = Some (codes "__dt__1DFv") } ∷ [])
+    (destructor_of (codes "1D") (codes "__dt__1DFv")
+    (put_digit (pointer_operate ptr.Difference (pointer_operate ptr.Add (read (member this 0)) (num 0)) this) ∷ [])
+    ∷ main_of (declare 0 (array D 2) blank ∷ set (member (element 0) 0) (address (element 1)) ∷ set (member (element 1) 0) (address (element 1))
+    ∷ returns (num 0) ∷ []) ∷ []) []) 20
+    ≡ Some (record { end = Ended (pos 0); out = codes "01" })
+destroyed_elements_are_counted = refl
 
 -- int main(){int a[2][2]={{1,2},{3}};return a[1][0]*10+a[1][1];}
 rest_of_a_list_is_zero :

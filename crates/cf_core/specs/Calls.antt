@@ -341,7 +341,7 @@ delete_at again P many t p = do
   need (is_start made.0 p.route) not_alive
   need (same made.0 many) wrong_delete
   need (is_whole p || (not many && has_virtual_destructor P.classes t)) delete_through_base
-  need (if many then all_settled P.classes x x.type [] else is_settled (life_at P.classes x (whole p.route))) not_alive
+  need (all_settled P.classes x x.type []) not_alive
   release again P p.object made.1
   where
     same : Bool → Bool → Bool

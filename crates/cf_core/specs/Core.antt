@@ -84,7 +84,7 @@ mutual
     copy : SourceType → Core → Cores → Core
     each : Core → Core  -- every element by this initialiser
     list : Cores → Core → Core  -- elements or members in order, and each one more by the last initialiser (8.4.1)
-    string : List ℕ → Core  -- a char array by these bytes, and 0 behind (8.4.2)
+    string : List ℕ → Core  -- an array of characters by these bytes, and 0 behind (8.4.2)
     bind : Holder → Core → Core  -- a reference (8.4.3)
     zeros : Core  -- every scalar is 0 or null
     blank : Core  -- nothing is done

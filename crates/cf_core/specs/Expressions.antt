@@ -10,7 +10,7 @@ use Rattle.cf_core.specs.Pointers.{truth_value, pointer_op, from_void_value, dow
 use Rattle.cf_core.specs.Building.{dispatch, up_value}
 use Rattle.cf_core.specs.Calls.{Program, Again, root, run_named, name_function, full_expression, finish_static, copy_to, assign_to, delete_value}
 use Rattle.cf_core.specs.Scalars.{truth_of, converted_value, operated, signed, changed_value, indexed, decayed, pointed_to, to_derived, through_pointer}
-use Rattle.cf_core.specs.Objects.{result_place, local_place, static_type, static_place, same_type, literal_object, new_local, settled, built_at, write_bytes, element_part, element_count, begin_list, end_list, costs_tick, one_tick, count_of, new_storage, count, run_pointer}
+use Rattle.cf_core.specs.Objects.{result_place, local_place, static_type, static_place, same_type, literal_object, new_local, settled, built_at, character_kind, write_bytes, element_part, element_count, begin_list, end_list, costs_tick, one_tick, count_of, new_storage, count, run_pointer}
 
 module _ (again : Again) (P : Program) where
   abbrev mutual
@@ -135,7 +135,7 @@ module _ (again : Again) (P : Program) where
       valid (is_array t)
       for_each 0 (element_count P.classes t) (λ i.
           one_tick (costs_tick e P.classes (element (plain t)))
-          >> settled P.classes (inner (item i) p) (full_expression again P (value e (Some (inner (item i) p)))))
+          >> full_expression again P (settled P.classes (inner (item i) p) (value e (Some (inner (item i) p)))))
       gives Built
     value (list es rest) into = do
       p ← built_at into
@@ -148,7 +148,7 @@ module _ (again : Again) (P : Program) where
       for_each (count es) (n - count es) (λ i.
           let q = inner (element_part t i) p in
           one_tick (is_array t && costs_tick rest P.classes (element (plain t)))
-          >> settled P.classes q (full_expression again P (value rest (Some q))))
+          >> full_expression again P (settled P.classes q (value rest (Some q))))
       when (is_class t) (end_list p) done
       gives Built
     value (string bytes) into = do
@@ -157,7 +157,7 @@ module _ (again : Again) (P : Program) where
       let t = place_type P.classes s p
       valid (is_array t && nat_le (length bytes) (element_count P.classes t))
       fill_zeros P.classes p
-      write_bytes p 0 bytes
+      write_bytes (character_kind t) p 0 bytes
       gives Built
     value (bind no_temporary e) into = value e None
     value (bind (local_temporary i t) e) into = do
@@ -201,5 +201,5 @@ module _ (again : Again) (P : Program) where
     elements (more e es) i p t =
         let q = inner (element_part t i) p in
         one_tick (is_array t && costs_tick e P.classes (element (plain t)))
-        >> settled P.classes q (full_expression again P (value e (Some q)))
+        >> full_expression again P (settled P.classes q (value e (Some q)))
         >> elements es (suc i) p t

@@ -1,5 +1,6 @@
 -- The objects that names and literals stand for, initialised places, storage of the free store, and calls through pointers.
 use Rattle.std.specs.Prelude.{if◌then◌else◌, ℕ, suc, ◌+◌, nat_lt, Bool, true, false, ◌&&◌, ◌||◌, ◌==◌, List, [], ◌∷◌, pos, negsuc, Option, Some, None, find, position, slice_get, option_map, length, bytes_eq}
+use Rattle.cf_base.specs.declared.kind.Kind.{Kind}
 use Rattle.cf_base.specs.declared.kind.Kind.TheVariants.{Char}
 use Rattle.cf_base.specs.Integers.{convert as converted}
 use Rattle.cf_core.specs.Types.{is_class, is_array, result, Name, SourceType, void, integer, array, const, plain, element, same_but_const}
@@ -90,10 +91,17 @@ result_place t into = if is_class (result t) then into else None
 abbrev pub built_at : Option Place → Act Place
 built_at into = some_or into malformed
 
--- the bytes of a literal in a char array, the rest 0
-abbrev pub write_bytes : Place → ℕ → List ℕ → Act (Unit {0})
-write_bytes p i [] = done
-write_bytes p i (b ∷ rest) = first_value (inner (item i) p) (Number (converted Char (pos b))) >> write_bytes p (suc i) rest
+-- the kind of the characters that an array holds
+abbrev pub character_kind : SourceType → Kind
+character_kind (integer k) = k
+character_kind (array t n) = character_kind t
+character_kind (const t) = character_kind t
+character_kind t = Char
+
+-- the bytes of a literal in an array of characters of this kind, each converted to it (8.4.2)
+abbrev pub write_bytes : Kind → Place → ℕ → List ℕ → Act (Unit {0})
+write_bytes k p i [] = done
+write_bytes k p i (b ∷ rest) = first_value (inner (item i) p) (Number (converted k (pos b))) >> write_bytes k p (suc i) rest
 
 -- the elements of an array or the data members of a class, in order
 abbrev pub element_part : SourceType → ℕ → Part

@@ -50,11 +50,11 @@ abbrev pub up_to : ℕ → Option ℕ → Act ℕ
 up_to n None = undefined outside_array
 up_to n (Some i) = need (nat_le i n) outside_array >> gives i
 
--- a pointer moved by a number of elements, within the array or to its end (5.7)
+-- A pointer moved by a number of elements, within the array or to its end (5.7). Its elements may have been destroyed, as long as the array is there.
 abbrev pub moved_place : List Class → Place → ℤ → Act Value
 moved_place classes p z = do
   s ← state
-  need (not (is_dead classes (s.object p.object) p.route)) not_alive
+  need (not (s.object p.object).is_gone) not_alive
   let e = element_of p.route
   i ← up_to (bound_of classes (s.object p.object).type e) (further e.index z)
   gives (At (record p { route = route_of e i }))
@@ -94,17 +94,21 @@ abbrev pub truth_value : Bool → Value
 truth_value true = Number (pos 1)
 truth_value false = Number (pos 0)
 
+-- whether the storage in which two places lie has not ended
+abbrev pub both_there : State → Place → Place → Bool
+both_there s p q = not (s.object p.object).is_gone && not (s.object q.object).is_gone
+
 -- the number of elements from the second to the first
-abbrev pub difference_of : List Class → Value → Value → Act Value
-difference_of classes (At p) (At q) = do
+abbrev pub difference_of : Value → Value → Act Value
+difference_of (At p) (At q) = do
   s ← state
-  need (both_stand classes s p q) not_alive
+  need (both_there s p q) not_alive
   need (same_array p q) outside_array
   gives (Number (pos (element_of p.route).index -ℤ pos (element_of q.route).index))
-difference_of classes Null Null = undefined null_used
-difference_of classes Null (At q) = undefined null_used
-difference_of classes (At p) Null = undefined null_used
-difference_of classes v w = malformed
+difference_of Null Null = undefined null_used
+difference_of Null (At q) = undefined null_used
+difference_of (At p) Null = undefined null_used
+difference_of v w = malformed
 
 -- the order of two elements of one array (5.9)
 abbrev pub ordered : List Class → (ℕ → ℕ → Bool) → Value → Value → Act Value
@@ -167,7 +171,7 @@ equal_values classes v w = malformed
 abbrev pub pointer_op : List Class → PointerOperator → Value → Value → Act Value
 pointer_op classes op.Add v w = sum_of classes v w
 pointer_op classes op.Subtract v w = moved_back classes v w
-pointer_op classes op.Difference v w = difference_of classes v w
+pointer_op classes op.Difference v w = difference_of v w
 pointer_op classes op.Less v w = ordered classes nat_lt v w
 pointer_op classes op.Greater v w = ordered classes (λ i j. nat_lt j i) v w
 pointer_op classes op.LessEqual v w = ordered classes nat_le v w

@@ -73,7 +73,7 @@ module _ (again : Again) (P : Program) where
     s ← state
     elim s.frame.result [
       | None ↦ full_expression again P (using (value again P e None))
-      | Some p ↦ settled P.classes p (full_expression again P (value again P e (Some p))) >> gives Built
+      | Some p ↦ full_expression again P (settled P.classes p (value again P e (Some p))) >> gives Built
     ]
 
   abbrev pub builds_part : Part → Core → Act (Unit {0})
@@ -82,7 +82,7 @@ module _ (again : Again) (P : Program) where
     object ← some_or s.frame.this malformed
     valid (has_part P.classes (place_type P.classes s object) w)
     let p = part_place w object
-    settled P.classes p (full_expression again P (value again P e (Some p)))
+    full_expression again P (settled P.classes p (value again P e (Some p)))
 
   abbrev pub is_virtual_part : Part → Bool
   is_virtual_part (within (virtual c)) = true
@@ -108,7 +108,7 @@ module _ (again : Again) (P : Program) where
   abbrev pub declares : ℕ → SourceType → Core → Act (Unit {0})
   declares i t e = do
     o ← new_local i t
-    settled P.classes (root o) (full_expression again P (value again P e (Some (root o))))
+    full_expression again P (settled P.classes (root o) (value again P e (Some (root o))))
     frame_changed (lists_in_scope o)
 
   -- A static object is initialised once; control counts as having reached it before its initialiser starts (6.7).
@@ -116,7 +116,7 @@ module _ (again : Again) (P : Program) where
   initialises name e = do
     p ← static_place P name
     changed (λ s. record s { reached = name ∷ s.reached })
-    settled P.classes p (full_expression again P (value again P e (Some p)))
+    full_expression again P (settled P.classes p (value again P e (Some p)))
     finish_static P (static_type P name) p.object
 
   abbrev mutual

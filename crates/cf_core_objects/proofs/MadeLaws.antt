@@ -18,6 +18,7 @@ use Rattle.cf_core.specs.Run as run
 use Rattle.cf_core.specs.Access as access
 use Rattle.cf_core.specs.Objects as objects
 use Rattle.cf_core.specs.Objects.{found_literal, byte_at}
+use Rattle.cf_base.specs.declared.kind.Kind.{Kind}
 use Rattle.cf_base.specs.declared.kind.Kind.TheVariants.{Char}
 use Rattle.cf_run_tree.specs.declared.shape.Bounds.{Bounds}
 use Rattle.cf_run_tree.specs.declared.shape.Bounds.TheVariants as bounds
@@ -213,11 +214,11 @@ statics-state T e p x literals reached h =
     ∙ ap (λ n. state_with n (objects_of T x.cells.items) [] [] (frame_of e)) (statics-long T p x.cells.items p.statics h)
     ∙ ap (λ f. state_with (length_of (map (static_of T p) p.statics)) f [] [] (frame_of e)) (λ j o. statics-at T p x.cells.items p.statics o h j)
 
-pub byte-next : (p : Place) (i next b : ℕ) (bytes rest : List ℕ) (s : State) (w : World) → bytes ≡ b ∷ rest → next ≡ i + 1
-    → objects.write_bytes p i bytes s w ≡ (access.first_value (inner (item i) p) (Number (converted Char (pos b))) s w ▷ (λ _. objects.write_bytes p next rest))
-byte-next p i next b bytes rest s w is add =
-    ap (λ l. objects.write_bytes p i l s w) is
-    ∙ ap (λ k. access.first_value (inner (item i) p) (Number (converted Char (pos b))) s w ▷ (λ _. objects.write_bytes p k rest)) (let h : suc i ≡ next = omega (arith, add) in h)
+pub byte-next : (kind : Kind) (p : Place) (i next b : ℕ) (bytes rest : List ℕ) (s : State) (w : World) → bytes ≡ b ∷ rest → next ≡ i + 1
+    → objects.write_bytes kind p i bytes s w ≡ (access.first_value (inner (item i) p) (Number (converted kind (pos b))) s w ▷ (λ _. objects.write_bytes kind p next rest))
+byte-next kind p i next b bytes rest s w is add =
+    ap (λ l. objects.write_bytes kind p i l s w) is
+    ∙ ap (λ k. access.first_value (inner (item i) p) (Number (converted kind (pos b))) s w ▷ (λ _. objects.write_bytes kind p k rest)) (let h : suc i ≡ next = omega (arith, add) in h)
 
 pub if-ok : {A B : Type 0} {P Q : A → Type 0} (r : Result A B) → ((a : A) → P a → Q a) → IfOk r P → IfOk r Q
 if-ok (Ok a) f h = f a h

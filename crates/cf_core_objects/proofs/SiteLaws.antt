@@ -1,8 +1,9 @@
 -- What a place is, by where it lies in its object.
 use Rattle.std.proofs.Common.{◌≡◌, ◌∙◌, ℕ, Bool, true, false, true≢false, [], slice_get, Option, Some, None, refl, ap, sym}
+use Rattle.cf_base.specs.declared.kind.Kind.TheVariants.{Char}
 use Rattle.cf_core.specs.FromTypes.{Tables}
 use Rattle.cf_core.specs.Types.{SourceType, void, integer, enumeration, class, pointer, reference, array, takes, gives, data_member, function_member, const, plain, is_array, is_class}
-use Rattle.cf_core.specs.Objects.{element_count}
+use Rattle.cf_core.specs.Objects.{character_kind, element_count}
 use Rattle.cf_core.specs.Places.{Route, type_at, is_inside, is_scalar, is_reference, is_const}
 use Rattle.cf_core.specs.Pointers.{element_of, bound_of}
 use Rattle.cf_core.specs.Store.{Value, Object, zero_of, is_constant_place, automatic}
@@ -14,14 +15,14 @@ use Rattle.cf_run_tree.specs.declared.shape.Bounds.TheVariants as bounds
 use Rattle.cf_run_tree.specs.Tree.{list_of, arrays, shape_type, form_type, kept}
 use Rattle.cf_core_place.specs.declared.part.Part.{Part}
 use Rattle.cf_core_place.specs.declared.part.Part.TheVariants as part
-use Rattle.cf_core_place.specs.Routes.{route_of, depth}
+use Rattle.cf_core_place.specs.Routes.{route_of, row_route, depth}
 use Rattle.cf_core_place.proofs.PartLaws.{single, type_in, type-of, none_deeper, constant-of, permanent-constant, literal-constant, usable, dead, plain_object}
 use Rattle.cf_core_objects.specs.declared.object.Storage.{Storage}
 use Rattle.cf_core_objects.specs.declared.object.Storage.TheVariants as storage
 use Rattle.cf_core_objects.specs.declared.site.Site.{Site}
 use Rattle.cf_core_objects.specs.declared.site.Sort.{Sort}
 use Rattle.cf_core_objects.specs.declared.site.Sort.TheVariants as sort
-use Rattle.cf_core_objects.specs.Site.{sort_of, scalar_sort, reference_sort, array_sort, zero_sort, sort_with, constant_with, IsSite, HasItems, HasElements, HasNone}
+use Rattle.cf_core_objects.specs.Site.{sort_of, scalar_sort, reference_sort, array_sort, zero_sort, sort_with, form_kind, constant_with, IsSite, HasItems, HasElements, HasNone}
 use Rattle.cf_core_objects.specs.Store.{stored}
 
 -- What the meaning asks of a type, its sort tells.
@@ -211,6 +212,7 @@ site-of T shape b q held st is_gone n so inside is_constant count counts sorts i
       sort = ap sort_of type ∙ sort-in b q t shape.form (sort-form T shape.is_const shape.form) ∙ ap (sort_with shape.form) (sym counts) ∙ sym sorts;
       is_no_class = ap is_class type ∙ class-in b q t (class-form T shape.is_const shape.form);
       is_inside = insides;
+      is_gone = refl;
       is_usable = usable all held (stored st) is_gone π;
       is_dead = dead all held (stored st) is_gone π;
       is_constant = stored-const all held st is_gone π shape.is_const (slice_get (list_of b) (depth q))
@@ -240,6 +242,44 @@ none-empty part.Whole = refl
 none-empty part.Past = refl
 none-empty (part.Item i) = refl
 none-empty (part.Inner i j) = refl
+
+-- The kind of an array's characters is that of the object's scalars.
+kind-form : (T : Tables) (b : Bool) (f : Form) → character_kind (kept b (form_type T f)) ≡ form_kind f
+kind-form T true form.Void = refl
+kind-form T false form.Void = refl
+kind-form T true (form.Integer k) = refl
+kind-form T false (form.Integer k) = refl
+kind-form T true (form.Enumeration e) = refl
+kind-form T false (form.Enumeration e) = refl
+kind-form T true (form.Pointer t) = refl
+kind-form T false (form.Pointer t) = refl
+kind-form T true (form.Reference t) = refl
+kind-form T false (form.Reference t) = refl
+
+kind-in : (T : Tables) (b : Bounds) (c : Bool) (f : Form) (i : Option ℕ)
+    → character_kind (type_at [] (arrays (list_of b) (kept c (form_type T f))) (row_route i)) ≡ character_kind (kept c (form_type T f))
+kind-in T bounds.None c f None = refl
+kind-in T (bounds.One n) c f None = refl
+kind-in T (bounds.Two n m) c f None = refl
+kind-in T bounds.None true form.Void (Some i) = refl
+kind-in T bounds.None false form.Void (Some i) = refl
+kind-in T bounds.None true (form.Integer k) (Some i) = refl
+kind-in T bounds.None false (form.Integer k) (Some i) = refl
+kind-in T bounds.None true (form.Enumeration e) (Some i) = refl
+kind-in T bounds.None false (form.Enumeration e) (Some i) = refl
+kind-in T bounds.None true (form.Pointer t) (Some i) = refl
+kind-in T bounds.None false (form.Pointer t) (Some i) = refl
+kind-in T bounds.None true (form.Reference t) (Some i) = refl
+kind-in T bounds.None false (form.Reference t) (Some i) = refl
+kind-in T (bounds.One n) c f (Some i) = refl
+kind-in T (bounds.Two n m) c f (Some i) = refl
+
+pub kind-row : (T : Tables) (s : Shape) (b : Bounds) (i : Option ℕ) → character_kind (type_at [] (arrays (list_of b) (shape_type T s)) (row_route i)) ≡ form_kind s.form
+kind-row T s b i = kind-in T b s.is_const s.form i ∙ kind-form T s.is_const s.form
+
+pub kind-nowhere : (i : Option ℕ) → character_kind (type_at [] void (row_route i)) ≡ Char
+kind-nowhere None = refl
+kind-nowhere (Some i) = refl
 
 pub elements-of : (x : Object) (π : Route) (site : Site) (n : ℕ) → IsSite x π site → site.sort ≡ sort.Array n → HasElements (type_at [] x.type π) n
 elements-of x π site n is h = record {

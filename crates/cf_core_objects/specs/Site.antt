@@ -1,5 +1,7 @@
 -- What the meaning says of a place of an object, but for what it holds.
 use Rattle.std.specs.Prelude.{ℕ, ◌≡◌, Bool, true, false, not, [], pos, Option, Some, None, Result, Ok, Err}
+use Rattle.cf_base.specs.declared.kind.Kind.{Kind}
+use Rattle.cf_base.specs.declared.kind.Kind.TheVariants.{Char}
 use Rattle.cf_core.specs.Types.{SourceType, void, integer, enumeration, class, pointer, reference, array, takes, gives, data_member, function_member, const, is_array, is_class}
 use Rattle.cf_core.specs.Objects.{element_count}
 use Rattle.cf_core.specs.Places.{Route, type_at, is_inside}
@@ -71,6 +73,14 @@ sort_with (form.Enumeration e) None = sort.Number
 sort_with (form.Pointer t) None = sort.Pointer
 sort_with (form.Reference t) None = sort.Reference
 
+-- the kind of the integers of a form
+abbrev pub form_kind : Form → Kind
+form_kind form.Void = Char
+form_kind (form.Integer k) = k
+form_kind (form.Enumeration e) = Char
+form_kind (form.Pointer t) = Char
+form_kind (form.Reference t) = Char
+
 abbrev pub constant_with : Storage → Bool → Option ℕ → Bool
 constant_with (storage.Literal bytes) is_const count = true
 constant_with storage.Automatic is_const None = is_const
@@ -82,6 +92,7 @@ pub record IsSite (x : Object) (π : Route) (site : Site) : Type 0 where
   pub sort : sort_of (type_at [] x.type π) ≡ site.sort
   pub is_no_class : is_class (type_at [] x.type π) ≡ false
   pub is_inside : is_inside [] x.type π ≡ site.is_inside
+  pub is_gone : x.is_gone ≡ site.is_gone
   pub is_usable : is_usable [] x π ≡ not site.is_gone
   pub is_dead : is_dead [] x π ≡ site.is_gone
   pub is_constant : is_constant_place [] x π ≡ site.is_constant

@@ -17,7 +17,7 @@ mod site;
 pub use access::{followed, local_value, read, settle, static_value, used, whole_held, write};
 pub use answer::{Stop, Value};
 pub use ending::{end_objects, end_scope, end_temporaries};
-pub use filling::{Array, elements, fill_zeros, reach, write_bytes};
+pub use filling::{Array, character_kind, elements, fill_zeros, reach, write_bytes};
 pub use integer::Integer;
 pub use making::{literal_object, new_local, new_object, new_scalar, static_objects};
 pub use object::{Cell, Entered, Held, Literal, Objects, Storage};

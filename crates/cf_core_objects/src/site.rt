@@ -1,6 +1,5 @@
 ghost use Rattle.std.specs.Prelude.{◌≡◌, [], IfSome, Some, None, option_map, pos};
 ghost use Rattle.cf_base.specs.Integers.{convert};
-ghost use Rattle.cf_base.specs.declared.kind.Kind.TheVariants.{Char};
 ghost use Rattle.cf_core.specs.FromTypes.{Tables};
 ghost use Rattle.cf_core.specs.Objects as meaning;
 ghost use Rattle.cf_core.specs.Places.{type_at};
@@ -14,8 +13,10 @@ ghost use Rattle.cf_core_objects.specs.Store.{first_held, object_of, objects_of}
 
 use crate::answer::Value;
 use crate::object::{Cell, Objects, Storage};
+use cf_base::Kind;
 use cf_core_place::{Part, Place, bound, count, is_inside};
 use cf_run_tree::{Bounds, Form, Shape};
+use cf_types::convert_int;
 
 /// What a type is, as far as objects go.
 #[derive(Clone, Copy, Debug)]
@@ -84,18 +85,17 @@ fn byte_at<'a>(bytes: &[u8], part: Part) -> Option<Value<'a>>
     match part {
         Part::Item(index) => match bytes.get(index as usize) {
             None => None,
-            Some(byte) => Some(character(*byte)),
+            Some(byte) => Some(character(Kind::Char, *byte)),
         },
         _ => None,
     }
 }
 
-/// A byte as a char.
-pub fn character<'a>(byte: u8) -> Value<'a>
-    ensures { value_of result ≡ Number (convert Char (pos byte)) }
+/// A byte as a character of this kind.
+pub fn character<'a>(kind: Kind, byte: u8) -> Value<'a>
+    ensures { value_of result ≡ Number (convert kind (pos byte)) }
 {
-    let value = i64::from(byte);
-    Value::Number(if value < 128 { value } else { value - 256 })
+    Value::Number(convert_int(i64::from(byte), kind))
 }
 
 /// What a form is.

@@ -1,7 +1,8 @@
--- How the elements of an array are initialised one by one (8.4.1), and a char array by a string (8.4.2).
+-- How the elements of an array are initialised one by one (8.4.1), and an array of characters by a string (8.4.2).
 use Rattle.std.proofs.Common.{◌≡◌, ◌∙◌, ℕ, zero, suc, ◌+◌, ◌-◌, ◌<◌, ◌≤◌, Bool, true, false, List, [], ◌∷◌, length, map, Some, Result, Ok, Err, Bor, refl, ap, sym, subst, arith, true≢false, nat_lt}
 use Rattle.std.specs.Prelude.{◌&&◌, ◌||◌, nat_le}
 use Rattle.std.proofs.lemmas.Bool.Decides.{nat_tests}
+use Rattle.cf_base.specs.declared.kind.Kind.{Kind}
 use Rattle.cf_base.specs.World.{World, Went}
 use Rattle.cf_core.specs.FromTypes.{Tables}
 use Rattle.cf_core.specs.Types.{SourceType, void, integer, enumeration, class, pointer, reference, array, takes, gives as gives_type, data_member, function_member, const, is_array, is_class, plain, element}
@@ -11,7 +12,7 @@ use Rattle.cf_core.specs.Places.{Place, inner, bound}
 use Rattle.cf_core.specs.Store.{Value, Built}
 use Rattle.cf_core.specs.Run.{State, Malformed, Act, ◌>>=◌, ◌>>◌, gives, done, valid, when, for_each}
 use Rattle.cf_core.specs.Access.{place_type, fill_zeros}
-use Rattle.cf_core.specs.Objects.{settle, settled, element_part, element_count, begin_list, end_list, costs_tick, any_costs, one_tick, count, write_bytes}
+use Rattle.cf_core.specs.Objects.{settled, element_part, element_count, begin_list, end_list, costs_tick, any_costs, one_tick, count, character_kind, write_bytes}
 use Rattle.cf_core.specs.Calls.{full_expression}
 use Rattle.cf_core.specs.Expressions.{value, elements}
 use Rattle.cf_run_tree.specs.declared.node.Node.{Node, ind-Node, roll-Node}
@@ -29,7 +30,7 @@ use Rattle.cf_core_objects.specs.Answer.{Stopped}
 use Rattle.cf_core_objects.specs.Site.{Counted, HasElements, HasNone}
 use Rattle.cf_core_objects.specs.Then.{◌▷◌}
 use Rattle.cf_core_objects.proofs.ThenLaws.{then-assoc, then-same}
-use Rattle.cf_core_run.specs.Going.{again, valued, full, cores, one_element, elements_from, listing, listing_with, go_element}
+use Rattle.cf_core_run.specs.Going.{again, valued, full, cores, one_element, elements_from, listing, listing_with, writing}
 use Rattle.cf_core_run.specs.declared.mark.Listing.{Listing}
 use Rattle.cf_core_objects.specs.declared.filling.Array.{Array}
 use Rattle.cf_core_place.specs.declared.goal.Goal.{Goal}
@@ -111,13 +112,13 @@ module _ (T : Tables) (p : Program) (k : ℕ) (q : Place) (t : SourceType) (is_a
   abbrev with_cost : Node → ℕ → Act (Unit {0})
   with_cost e i =
       one_tick (is_array t && costs_tick (core_of T p e) [] (element (plain t)))
-      >> settled [] (inner (element_part t i) q) (full_expression (again T p k) (program_of T p) (value (again T p k) (program_of T p) (core_of T p e) (Some (inner (element_part t i) q))))
+      >> full_expression (again T p k) (program_of T p) (settled [] (inner (element_part t i) q) (value (again T p k) (program_of T p) (core_of T p e) (Some (inner (element_part t i) q))))
 
   costless : (e : Node) (i : ℕ) → with_cost e i ≡ one_element T p k i q e
   costless e i =
-      ap (λ (b : Bool). one_tick b >> settled [] (inner (element_part t i) q) (full_expression (again T p k) (program_of T p) (value (again T p k) (program_of T p) (core_of T p e) (Some (inner (element_part t i) q)))))
+      ap (λ (b : Bool). one_tick b >> full_expression (again T p k) (program_of T p) (settled [] (inner (element_part t i) q) (value (again T p k) (program_of T p) (core_of T p e) (Some (inner (element_part t i) q)))))
       (and-none (is_array t) (costs_tick (core_of T p e) [] (element (plain t))) (costs-none T p e (element (plain t))))
-      ∙ ap (λ (x : Part). settled [] (inner x q) (full T p k (valued T p k (core_of T p e) (Some (inner x q))))) (element-item t i is_an_array)
+      ∙ ap (λ (x : Part). full T p k (settled [] (inner x q) (valued T p k (core_of T p e) (Some (inner x q))))) (element-item t i is_an_array)
 
   fill-from : (i n : ℕ) (filler : Node) (s : State) (w : World)
       → (for_each i n (λ i. one_element T p k i q filler) >> gives Built) s w ≡ elements_from T p k i q n [] filler s w
@@ -152,12 +153,12 @@ module _ (T : Tables) (p : Program) (k : ℕ) (q : Place) (S : State) (w : World
   abbrev list_rest : SourceType → Cores → Node → ℕ → ℕ → Act Value
   list_rest t es filler m d =
       elements (again T p k) (program_of T p) es 0 q t >> (for_each m d (λ i. one_tick (is_array t && costs_tick (core_of T p filler) [] (element (plain t)))
-      >> settled [] (inner (element_part t i) q) (full_expression (again T p k) (program_of T p) (value (again T p k) (program_of T p) (core_of T p filler) (Some (inner (element_part t i) q))))) >> gives Built)
+      >> full_expression (again T p k) (program_of T p) (settled [] (inner (element_part t i) q) (value (again T p k) (program_of T p) (core_of T p filler) (Some (inner (element_part t i) q))))) >> gives Built)
 
   abbrev list_whole : Bool → Bool → SourceType → Cores → Node → ℕ → ℕ → Act Value
   list_whole b c t es filler m d =
       valid b >> (when c (begin_list q) done >> (elements (again T p k) (program_of T p) es 0 q t >> (for_each m d (λ i. one_tick (is_array t && costs_tick (core_of T p filler) [] (element (plain t)))
-      >> settled [] (inner (element_part t i) q) (full_expression (again T p k) (program_of T p) (value (again T p k) (program_of T p) (core_of T p filler) (Some (inner (element_part t i) q))))) >> (when c (end_list q) done >> gives Built))))
+      >> full_expression (again T p k) (program_of T p) (settled [] (inner (element_part t i) q) (value (again T p k) (program_of T p) (core_of T p filler) (Some (inner (element_part t i) q))))) >> (when c (end_list q) done >> gives Built))))
 
   fits-as : (b : Bool) (t : SourceType) (n m : ℕ) (es : List Node) → is_array t ≡ true → element_count [] t ≡ n → nat_le (length es) n ≡ b
       → ((is_array t || is_class t) && nat_le (count (cores T p es)) (element_count [] t)) ≡ b
@@ -201,16 +202,17 @@ module _ (T : Tables) (p : Program) (k : ℕ) (q : Place) (S : State) (w : World
 
   -- a string
   abbrev string_rest : List ℕ → Act Value
-  string_rest bytes = fill_zeros [] q >> (write_bytes q 0 bytes >> gives Built)
+  string_rest bytes = fill_zeros [] q >> (write_bytes (character_kind (place_type [] S q)) q 0 bytes >> gives Built)
 
   abbrev string_whole : Bool → List ℕ → Act Value
   string_whole b bytes = valid b >> string_rest bytes
 
-  pub string-goes : (bytes : List ℕ) (n : ℕ) → HasElements (place_type [] S q) n → nat_le (length bytes) n ≡ true
-      → valued T p k (string bytes) (Some q) S w ≡ string_rest bytes S w
-  string-goes bytes n h le =
+  pub string-goes : (bytes : List ℕ) (n : ℕ) (kind : Kind) → HasElements (place_type [] S q) n → nat_le (length bytes) n ≡ true → character_kind (place_type [] S q) ≡ kind
+      → valued T p k (string bytes) (Some q) S w ≡ writing T p kind q bytes S w
+  string-goes bytes n kind h le is =
       let t = place_type [] S q in
       ap (λ (b : Bool). string_whole b bytes S w) (ap (λ (x : Bool). x && nat_le (length bytes) (element_count [] t)) h.array ∙ ap (nat_le (length bytes)) h.count ∙ le)
+      ∙ ap (λ (kind : Kind). writing T p kind q bytes S w) is
 
   pub string-many : (bytes : List ℕ) (n : ℕ) → HasElements (place_type [] S q) n → nat_le (length bytes) n ≡ false
       → valued T p k (string bytes) (Some q) S w ≡ Went Malformed w
@@ -265,11 +267,10 @@ first-goes T p k l rest e s w er lt =
 
 pub element-goes : (T : Tables) (p : Program) (k : ℕ) (others : Listing) (next : ℕ) (goal : Goal) (e : Node) (s : State) (w : World)
     → goal_place goal ≡ inner (item others.index) (row_place others.array) → next ≡ others.index + 1
-    → listing_with T p k others e s w ≡ (full T p k (valued T p k (core_of T p e) (Some (goal_place goal))) s w ▷ go_element T p k goal (record others { index = next }))
+    → listing_with T p k others e s w
+    ≡ (full T p k (settled [] (goal_place goal) (valued T p k (core_of T p e) (Some (goal_place goal)))) >> listing T p k (record others { index = next })) s w
 element-goes T p k others next goal e s w hp hi =
-    let rest : Act Value = elements_from T p k (suc others.index) (row_place others.array) (others.count - suc others.index) others.rest.now others.filler.now in
-    let q = inner (item others.index) (row_place others.array) in
-    then-assoc (full T p k (valued T p k (core_of T p e) (Some q)) s w) (settle [] q) (λ u. rest)
-    ∙ ap (λ (q : Place). full T p k (valued T p k (core_of T p e) (Some q)) s w ▷ (λ v. settle [] q v >>= (λ u. rest))) (sym hp)
-    ∙ ap (λ i. full T p k (valued T p k (core_of T p e) (Some (goal_place goal))) s w ▷ (λ v. settle [] (goal_place goal) v >>= (λ u. elements_from T p k i (row_place others.array) (others.count - i) others.rest.now others.filler.now)))
-    (let h : suc others.index ≡ next = omega (arith, hi) in h)
+    ap (λ (q : Place). (full T p k (settled [] q (valued T p k (core_of T p e) (Some q)))
+    >> elements_from T p k (suc others.index) (row_place others.array) (others.count - suc others.index) others.rest.now others.filler.now) s w) (sym hp)
+    ∙ ap (λ i. (full T p k (settled [] (goal_place goal) (valued T p k (core_of T p e) (Some (goal_place goal))))
+    >> elements_from T p k i (row_place others.array) (others.count - i) others.rest.now others.filler.now) s w) (let h : suc others.index ≡ next = omega (arith, hi) in h)

@@ -19,7 +19,7 @@ use Rattle.cf_core.specs.Run.{Exits, Malformed}
 use Rattle.cf_base.specs.World.{Stops}
 use Rattle.cf_core_store.specs.declared.results.Applied.TheVariants as applied
 use Rattle.cf_core_store.specs.Values.{of_value}
-use Rattle.cf_core.specs.Objects.{settle, settled, new_local}
+use Rattle.cf_core.specs.Objects.{settled, new_local}
 use Rattle.cf_core.specs.Calls.{Flow, Falls, Returns, Again, turn, root, end_object, destroy, has_destructor, full_expression}
 use Rattle.cf_core.specs.Calls as calls
 use Rattle.cf_core.specs.Statements.{tests_first}
@@ -47,7 +47,7 @@ use Rattle.cf_core_run.proofs.Goes.{flow-pushed}
 -- what is left of a declaration once the local is there
 abbrev pub declare_rest : Tables → Program → ℕ → Core → ℕ → Act Flow
 declare_rest T p k c o =
-    (settled [] (root o) (full_expression (again T p k) (program_of T p) (valued T p k c (Some (root o)))) >> frame_changed (lists_in_scope o)) >> gives Falls
+    (full_expression (again T p k) (program_of T p) (settled [] (root o) (valued T p k c (Some (root o)))) >> frame_changed (lists_in_scope o)) >> gives Falls
 
 -- A full expression ends with a truth value, or with 1 or 0 for it.
 module _ (T : Tables) (p : Program) (k : ℕ) (around : List ℕ) (K : Bool → Act Flow) where
@@ -93,11 +93,9 @@ pub return-goes : (T : Tables) (p : Program) (k : ℕ) (e : Entered) (objects : 
 return-goes T p k e objects n x w is = ap (λ (n : Option Node). performed T p k (give (maybe_core T p n)) (state_of T e objects) w) is
 
 pub declare-goes : (T : Tables) (p : Program) (k : ℕ) (e : Entered) (objects : Objects) (c : Core) (o : ℕ) (w : World)
-    → declare_rest T p k c o (state_of T e objects) w ≡ (full T p k (valued T p k c (Some (root o))) (state_of T e objects) w ▷ go_declared T p k o)
+    → declare_rest T p k c o (state_of T e objects) w ≡ (full T p k (settled [] (root o) (valued T p k c (Some (root o)))) >> go_declared T p k o) (state_of T e objects) w
 declare-goes T p k e objects c o w =
-    let F = full T p k (valued T p k c (Some (root o))) (state_of T e objects) w in
-    then-assoc (F ▷ settle [] (root o)) (λ u. frame_changed (lists_in_scope o)) (λ u. gives Falls)
-    ∙ then-assoc F (settle [] (root o)) (λ u. frame_changed (lists_in_scope o) >> gives Falls)
+    then-assoc (full T p k (settled [] (root o) (valued T p k c (Some (root o)))) (state_of T e objects) w) (λ u. frame_changed (lists_in_scope o)) (λ u. gives Falls)
 
 pub declare-first : (T : Tables) (p : Program) (k : ℕ) (i : ℕ) (t : SourceType) (c : Core) (s : State) (w : World)
     → performed T p k (declare i t c) s w ≡ (new_local i t s w ▷ (λ o. declare_rest T p k c o))

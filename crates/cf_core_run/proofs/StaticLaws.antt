@@ -12,7 +12,7 @@ use Rattle.cf_core.specs.Places.{Place}
 use Rattle.cf_core.specs.Store.{Value, Code}
 use Rattle.cf_core.specs.Run.{State, Malformed, Act, ◌>>=◌, ◌>>◌, gives, malformed, done, changed, need, some_or, when, for_all, cast_from_void}
 use Rattle.cf_core.specs.Access.{followed}
-use Rattle.cf_core.specs.Objects.{settle, settled, static_number, static_type}
+use Rattle.cf_core.specs.Objects.{settled, static_number, static_type}
 use Rattle.cf_core.specs.Calls.{root, has_destructor}
 use Rattle.cf_core.specs.Joined.{is_nothing, sets_constant, constant_setting, in_file, owner_or}
 use Rattle.cf_core.specs.Program.{set_constant}
@@ -29,9 +29,8 @@ use Rattle.cf_run_tree.specs.declared.program.RunStatic.{RunStatic}
 use Rattle.cf_run_tree.specs.declared.shape.ObjectType.{ObjectType}
 use Rattle.cf_run_tree.specs.Tree as tree
 use Rattle.cf_run_tree.specs.Tree.{core_step, core_of, applied, joined, object_type, type_or, static_of, constants_of, program_of}
-use Rattle.cf_core_objects.specs.Then.{◌▷◌}
 use Rattle.cf_core_objects.proofs.ThenLaws.{then-assoc, then-same}
-use Rattle.cf_core_run.specs.Going.{again, valued, full, called, setting, setting_with, reaching, go_constant}
+use Rattle.cf_core_run.specs.Going.{again, valued, full, called, setting, setting_with, reaching}
 use Rattle.cf_core_run.proofs.CallLaws.{find-map}
 use Rattle.cf_core_run.proofs.LabelLaws.{form_of}
 use Rattle.cf_core_run.proofs.ShapeLaws.{same-itself}
@@ -203,7 +202,7 @@ abbrev initialising : Tables → Program → ℕ → RunStatic → List RunStati
 initialising T p k x xs r b = do
   q ← some_or r malformed >>= (λ o. gives (root o))
   changed (λ s. record s { reached = x.name ∷ s.reached })
-  settled [] q (full T p k (valued T p k (core_of T p x.start) (Some q)))
+  full T p k (settled [] q (valued T p k (core_of T p x.start) (Some q)))
   when b (changed (λ s. record s { finished = q.object ∷ s.finished })) done
   setting T p k xs
 
@@ -213,7 +212,7 @@ set-as T p k x xs s w =
     let P = program_of T p in
     let A : Act Place = some_or (static_number P x.name) malformed >>= (λ o. gives (root o)) in
     let B : Act (Unit {0}) = changed (λ s. record s { reached = x.name ∷ s.reached }) in
-    let C : Place → Act (Unit {0}) = λ q. settled [] q (full T p k (valued T p k (core_of T p x.start) (Some q))) in
+    let C : Place → Act (Unit {0}) = λ q. full T p k (settled [] q (valued T p k (core_of T p x.start) (Some q))) in
     let D : Place → Act (Unit {0}) = λ q. when (has_destructor [] (static_type P x.name)) (changed (λ s. record s { finished = q.object ∷ s.finished })) done in
     let N : Act Value = setting T p k xs in
     then-assoc (A (in_setter T p x s) w) (λ q. B >> (C q >> D q)) (λ u. N)
@@ -231,10 +230,6 @@ set-goes T p k x xs n s w h =
     set-as T p k x xs s w
     ∙ ap (λ (r : Option ℕ). initialising T p k x xs r (has_destructor [] (static_type (program_of T p) x.name)) (in_setter T p x s) w) h
     ∙ ap (λ (b : Bool). initialising T p k x xs (Some n) b (in_setter T p x s) w) (destructor-none (static_type (program_of T p) x.name))
-
-pub open-goes : (T : Tables) (p : Program) (k : ℕ) (c : Core) (o : ℕ) (xs : List RunStatic) (s : State) (w : World)
-    → (settled [] (root o) (full T p k (valued T p k c (Some (root o)))) >> setting T p k xs) s w ≡ (full T p k (valued T p k c (Some (root o))) s w ▷ go_constant T p k o xs)
-open-goes T p k c o xs s w = then-assoc (full T p k (valued T p k c (Some (root o))) s w) (settle [] (root o)) (λ u. setting T p k xs)
 
 -- the function that initialises the first file
 pub first-setter : codes "__sti__u1" ≡ in_file 1 (codes "__sti")

@@ -1,5 +1,6 @@
 -- What a state of the runner means: the rest of the run.
 use Rattle.std.specs.Prelude.{◌≡◌, bytes_eq, codes, ℕ, zero, suc, ◌-◌, Bool, true, false, List, [], ◌∷◌, ◌++◌, reverse, map, option_map, ℤ, Option, Some, None, Result, Ok, Err}
+use Rattle.cf_base.specs.declared.kind.Kind.{Kind}
 use Rattle.cf_base.specs.Event.{Event, Enter, In, Out, End, Ended, Ticks, Depth, Undefined}
 use Rattle.cf_base.specs.World.{World, Ran, and_then, Outcome}
 use Rattle.cf_core.specs.FromTypes.{Tables}
@@ -169,6 +170,10 @@ module _ (T : Tables) (p : Program) where
     frame_changed (λ f. record f { temporaries = around })
     gives v
 
+  -- an initialiser has its value, which is stored at its goal before its full expression ends
+  abbrev pub go_stored : ℕ → Goal → List ℕ → Value → Act Value
+  go_stored k q around v = settle [] (goal_place q) v >>= (λ u. closed k (reverse around) Built)
+
   -- a temporary of the full expression has its value, or one that lives as long as a local
   abbrev pub go_temporary : ℕ → ℕ → Value → Act Value
   go_temporary k o v = settle [] (root o) v >>= (λ u. frame_changed (lists_temporary o) >> gives (At (root o)))
@@ -219,18 +224,18 @@ module _ (T : Tables) (p : Program) where
   naming name t = name_function (program_of T p) name t >> gives (Code name)
 
   -- an array of zeros gets these bytes, or a place its zeros
-  abbrev pub putting_bytes : Place → List ℕ → Act Value
-  putting_bytes q bytes = write_bytes q 0 bytes >> gives Built
+  abbrev pub putting_bytes : Kind → Place → List ℕ → Act Value
+  putting_bytes k q bytes = write_bytes k q 0 bytes >> gives Built
 
-  abbrev pub writing : Place → List ℕ → Act Value
-  writing q bytes = fill_zeros [] q >> putting_bytes q bytes
+  abbrev pub writing : Kind → Place → List ℕ → Act Value
+  writing k q bytes = fill_zeros [] q >> putting_bytes k q bytes
 
   abbrev pub zeroing : Place → Act Value
   zeroing q = fill_zeros [] q >> gives Built
 
   -- the element of an array at an index is initialised (8.4.1)
   abbrev pub one_element : ℕ → ℕ → Place → Node → Act (Unit {0})
-  one_element k i q e = settled [] (inner (item i) q) (full k (valued k (core_of T p e) (Some (inner (item i) q))))
+  one_element k i q e = full k (settled [] (inner (item i) q) (valued k (core_of T p e) (Some (inner (item i) q))))
 
   -- so many elements from an index on, by initialisers of their own while there are some, and then by one
   abbrev pub elements_from : ℕ → ℕ → Place → ℕ → List Node → Node → Act Value
@@ -245,9 +250,6 @@ module _ (T : Tables) (p : Program) where
   abbrev pub listing_with : ℕ → Listing → Node → Act Value
   listing_with k l e = one_element k l.index (row_place l.array) e >> elements_from k (suc l.index) (row_place l.array) (l.count - suc l.index) l.rest.now l.filler.now
 
-  abbrev pub go_element : ℕ → Goal → Listing → Value → Act Value
-  go_element k q l v = settle [] (goal_place q) v >>= (λ u. listing k l)
-
   -- the constant initialisers of these static objects, and then `main`
   abbrev pub setting : ℕ → List RunStatic → Act Value
   setting k xs =
@@ -261,11 +263,8 @@ module _ (T : Tables) (p : Program) where
   abbrev pub reaching : ℕ → RunStatic → ℕ → List RunStatic → Act Value
   reaching k x o xs = do
     changed (λ s. record s { reached = x.name ∷ s.reached })
-    settled [] (root o) (full k (valued k (core_of T p x.start) (Some (root o))))
+    full k (settled [] (root o) (valued k (core_of T p x.start) (Some (root o))))
     setting k xs
-
-  abbrev pub go_constant : ℕ → ℕ → List RunStatic → Value → Act Value
-  go_constant k o xs v = settle [] (root o) v >>= (λ u. setting k xs)
 
   -- what a value leads to
   abbrev pub go_value : ℕ → ValueMark → Value → Act Value
@@ -280,9 +279,10 @@ module _ (T : Tables) (p : Program) where
   go_value k (on_value_mark.Temporary o) v = go_temporary k o v
   go_value k (on_value_mark.Held o) v = go_held k o v
   go_value k (on_value_mark.Library made) v = go_library made.items v
-  go_value k (on_value_mark.Element q l) v = go_element k q l v
-  go_value k (on_value_mark.Constant o xs) v = go_constant k o xs.now v
+  go_value k (on_value_mark.Element l) v = listing k l
+  go_value k (on_value_mark.Constant xs) v = setting k xs.now
   go_value k (on_value_mark.Whole around) v = closed k (reverse around.items) v
+  go_value k (on_value_mark.Stored q around) v = go_stored k q around.items v
 
   -- the statements behind the label of a switch for this number
   abbrev pub labelled : ℕ → ℤ → Cores → Act Flow
@@ -299,8 +299,9 @@ module _ (T : Tables) (p : Program) where
   abbrev pub first_turn : ℕ → Repeated → Act Flow
   first_turn k r = holds (again k) (program_of T p) (maybe_core r.condition.now) >>= (λ t. when t (body_turn k r) (gives Falls))
 
-  abbrev pub go_declared : ℕ → ℕ → Value → Act Flow
-  go_declared k o v = settle [] (root o) v >>= (λ u. frame_changed (lists_in_scope o) >> gives Falls)
+  -- a local has its value
+  abbrev pub go_declared : ℕ → ℕ → Act Flow
+  go_declared k o = frame_changed (lists_in_scope o) >> gives Falls
 
   abbrev pub go_scope : ℕ → List ℕ → Flow → Act Flow
   go_scope k saved flow = do
@@ -331,7 +332,7 @@ module _ (T : Tables) (p : Program) where
   go_test k (test.First r) v = go_first k r v
   go_test k (test.Last r) v = go_last k r v
   go_test k (test.Stepped r) v = again k (turn (loop_of r))
-  go_test k (test.Declared o) v = go_declared k o v
+  go_test k (test.Declared o) v = go_declared k o
   go_test k test.Result v = gives (Returns v)
   go_test k (test.Switch es) v = go_switch k (cores es.now) v
 
@@ -440,7 +441,14 @@ pub record OpensWhole (old new : Machine) (m : TestMark) : Type 0 where
   pub same : (T : Tables) (p : Program) (act : Act Value) (o : Outside) → from_flow T p old (λ s w. full T p old.fuel act s w ▷ go_test T p old.fuel m) o ≡ from_value T p new act o
   pub fuel : new.fuel ≡ old.fuel
 
--- the same inside an expression
-pub record OpensInner (old new : Machine) (m : ValueMark) : Type 0 where
-  pub same : (T : Tables) (p : Program) (act : Act Value) (o : Outside) → from_value T p old (λ s w. full T p old.fuel act s w ▷ go_value T p old.fuel m) o ≡ from_value T p new act o
+-- an initialiser of a goal was begun: what gives its value comes next, and the mark says what follows once that is stored
+pub record OpensStart (old new : Machine) (q : Goal) (m : TestMark) : Type 0 where
+  pub same : (T : Tables) (p : Program) (act : Act Value) (o : Outside)
+      → from_flow T p old (full T p old.fuel (settled [] (goal_place q) act) >> go_test T p old.fuel m Built) o ≡ from_value T p new act o
+  pub fuel : new.fuel ≡ old.fuel
+
+-- the same inside an expression, or before a further initialiser
+pub record OpensPart (old new : Machine) (q : Goal) (m : ValueMark) : Type 0 where
+  pub same : (T : Tables) (p : Program) (act : Act Value) (o : Outside)
+      → from_value T p old (full T p old.fuel (settled [] (goal_place q) act) >> go_value T p old.fuel m Built) o ≡ from_value T p new act o
   pub fuel : new.fuel ≡ old.fuel

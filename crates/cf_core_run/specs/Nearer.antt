@@ -107,9 +107,10 @@ behind_value (on_value_mark.Argument c o) = 1 + arguments_left c
 behind_value (on_value_mark.Temporary o) = 1
 behind_value (on_value_mark.Held o) = 1
 behind_value (on_value_mark.Library made) = 1
-behind_value (on_value_mark.Element q l) = 1 + elements_left l
-behind_value (on_value_mark.Constant o xs) = 1 + statics_left xs.now
+behind_value (on_value_mark.Element l) = 1 + elements_left l
+behind_value (on_value_mark.Constant xs) = 1 + statics_left xs.now
 behind_value (on_value_mark.Whole around) = 1
+behind_value (on_value_mark.Stored q around) = 1
 
 abbrev pub behind_test : TestMark → ℕ
 behind_test test.Statement = 1

@@ -185,9 +185,10 @@ impl<'a> Machine<'a> {
             ValueMark::Temporary(object) => self.made(object, v),
             ValueMark::Held(object) => self.held(object, v),
             ValueMark::Library(made) => self.end_library(made, v),
-            ValueMark::Element(element, listing) => self.element(element, listing, v),
-            ValueMark::Constant(number, rest) => self.constant(number, rest, v),
+            ValueMark::Element(listing) => self.element(listing),
+            ValueMark::Constant(rest) => self.constant(rest),
             ValueMark::Whole(around) => self.close_whole(around, v),
+            ValueMark::Stored(goal, around) => self.close_stored(goal, around, v),
         }
     }
 

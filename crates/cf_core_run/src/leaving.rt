@@ -14,7 +14,6 @@ ghost use Rattle.cf_core_run.specs.Nearer.{weight, maybe_weight, statements_left
 
 use crate::mark::{Doing, Flow, FlowMark, Mark, Repeated, TestMark};
 use crate::state::{Machine, RunEnd, Step};
-use crate::temporaries::settle_object;
 use cf_base::Boxed;
 use cf_core_objects::{Entered, Integer, Stop, Value, end_objects, end_scope};
 use cf_core_store::truth;
@@ -63,7 +62,7 @@ impl<'a> Machine<'a> {
             TestMark::First(repeated) => self.tested_first(repeated, v),
             TestMark::Last(repeated) => self.tested_last(repeated, v),
             TestMark::Stepped(repeated) => self.repeat_next(repeated),
-            TestMark::Declared(object) => self.declared(object, v),
+            TestMark::Declared(object) => self.declared(object),
             TestMark::Result => self.ends(Flow::Returns(v)),
             TestMark::Switch(all) => self.switch(all, v),
         }
@@ -184,18 +183,13 @@ impl<'a> Machine<'a> {
     }
 
     /// A local has its value.
-    fn declared(&mut self, object: usize, v: Value<'a>) -> Result<Step<'a>, Stop>
-        ensures comes { (p : Program) → Comes p (λ T o. from_flow T p self.old (go_declared T p self.old.fuel object (value_of v.entry)) o) result self.new }
+    fn declared(&mut self, object: usize) -> Result<Step<'a>, Stop>
+        ensures comes { (p : Program) → Comes p (λ T o. from_flow T p self.old (go_declared T p self.old.fuel object) o) result self.new }
         ensures ticks { self.new.ticks ≡ self.old.ticks }
         ensures within { (p : Program) → onward p result self.new ≤ 1 + marks_left self.old.stack.items }
     {
-        match settle_object(&mut self.objects, object, v) {
-            Err(stop) => Err(stop),
-            Ok(()) => {
-                self.entered.scope.push(object)?;
-                self.ends(Flow::Falls)
-            }
-        }
+        self.entered.scope.push(object)?;
+        self.ends(Flow::Falls)
     }
 
     /// A statement has ended: the newest mark says what follows.

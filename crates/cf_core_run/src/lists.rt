@@ -2,19 +2,20 @@ ghost use Rattle.std.specs.Prelude.{◌≡◌, ◌<◌, ◌^◌, nat_le, [], len
 ghost use Rattle.cf_core.specs.Access.{place_type};
 ghost use Rattle.cf_core.specs.Core as cores;
 ghost use Rattle.cf_core.specs.FromTypes.{Tables};
+ghost use Rattle.cf_core.specs.Objects.{settled};
+ghost use Rattle.cf_core.specs.Run.{◌>>◌};
 ghost use Rattle.cf_run_tree.specs.Tree.{core_of};
 ghost use Rattle.cf_run_tree.specs.declared.program.Program.{Program};
 ghost use Rattle.cf_core_place.specs.Routes.{goal_place, row_place};
 ghost use Rattle.cf_core_objects.specs.Site.{HasElements};
-ghost use Rattle.cf_core_objects.specs.Store.{state_of, value_of};
-ghost use Rattle.cf_core_objects.specs.Then.{◌▷◌};
-ghost use Rattle.cf_core_run.specs.Going.{Comes, from_value, valued, full, cores as row, listing as listed, listing_with, go_element, putting_bytes, writing, zeroing};
+ghost use Rattle.cf_core_objects.specs.Store.{state_of};
+ghost use Rattle.cf_core_run.specs.Going.{Comes, from_value, valued, full, cores as row, listing as listed, listing_with, putting_bytes, writing, zeroing};
 ghost use Rattle.cf_core_run.specs.Nearer.{weight, weights, whole_array, so_many, elements_left, marks_left, onward};
 
 use crate::mark::{Doing, Listing, Mark, ValueMark};
 use crate::state::{Machine, Step};
-use cf_base::Boxed;
-use cf_core_objects::{Array, Stop, Value, elements, fill_zeros, settle, write_bytes};
+use cf_base::{Boxed, Kind};
+use cf_core_objects::{Array, Stop, Value, character_kind, elements, fill_zeros, write_bytes};
 use cf_core_place::{Goal, Row};
 use cf_run_tree::Node;
 
@@ -127,36 +128,26 @@ impl<'a> Machine<'a> {
         goal: Goal,
         others: Listing<'a>,
     ) -> Result<Step<'a>, Stop>
-        ensures comes { (p : Program) → Comes p (λ T o. from_value T p self.old (λ s w. full T p self.old.fuel (valued T p self.old.fuel (core_of T p e.now) (Some (goal_place goal))) s w ▷ go_element T p self.old.fuel goal others.entry) o) result self.new }
+        ensures comes { (p : Program) → Comes p (λ T o. from_value T p self.old (full T p self.old.fuel (settled [] (goal_place goal) (valued T p self.old.fuel (core_of T p e.now) (Some (goal_place goal)))) >> listed T p self.old.fuel others.entry) o) result self.new }
         ensures ticks { self.new.ticks ≡ self.old.ticks }
         ensures within { (p : Program) → onward p result self.new ≤ 3 + weight e.now + elements_left others.entry + marks_left self.old.stack.items }
     {
-        self.open_inner(ValueMark::Element(goal, others))?;
+        self.open_part(goal, ValueMark::Element(others))?;
         self.doing = Doing::Evaluate(e, Some(goal));
         Ok(Step::On)
     }
 
-    /// The value of an element is there.
-    pub fn element(
-        &mut self,
-        goal: Goal,
-        others: Listing<'a>,
-        v: Value<'a>,
-    ) -> Result<Step<'a>, Stop>
-        ensures comes { (p : Program) → Comes p (λ T o. from_value T p self.old (go_element T p self.old.fuel goal others.entry (value_of v.entry)) o) result self.new }
+    /// An element has its value: the others come.
+    pub fn element(&mut self, others: Listing<'a>) -> Result<Step<'a>, Stop>
+        ensures comes { (p : Program) → Comes p (λ T o. from_value T p self.old (listed T p self.old.fuel others.entry) o) result self.new }
         ensures ticks { self.new.ticks ≡ self.old.ticks }
         ensures within { (p : Program) → onward p result self.new ≤ 1 + elements_left others.entry + marks_left self.old.stack.items }
     {
-        match settle(&mut self.objects, goal.place(), v) {
-            Err(stop) => Err(stop),
-            Ok(()) => {
-                self.doing = Doing::Lists(others);
-                Ok(Step::On)
-            }
-        }
+        self.doing = Doing::Lists(others);
+        Ok(Step::On)
     }
 
-    /// A char array is initialised by these bytes (8.4.2).
+    /// An array of characters is initialised by these bytes (8.4.2).
     pub fn characters(&mut self, bytes: &'a [u8], into: Option<Goal>) -> Result<Step<'a>, Stop>
         ensures comes { (p : Program) → Comes p (λ T o. from_value T p self.old (valued T p self.old.fuel (cores.string bytes.now) (option_map goal_place into)) o) result self.new }
         ensures ticks { self.new.ticks ≡ self.old.ticks }
@@ -168,7 +159,7 @@ impl<'a> Machine<'a> {
         }
     }
 
-    /// The char array that these bytes initialise.
+    /// The array of characters that these bytes initialise.
     fn string(&mut self, bytes: &'a [u8], goal: Goal) -> Result<Step<'a>, Stop>
         ensures comes { (p : Program) → Comes p (λ T o. from_value T p self.old (valued T p self.old.fuel (cores.string bytes.now) (Some (goal_place goal))) o) result self.new }
         ensures ticks { self.new.ticks ≡ self.old.ticks }
@@ -180,7 +171,7 @@ impl<'a> Machine<'a> {
         }
     }
 
-    /// The char array has so many elements.
+    /// The array of characters has so many elements.
     fn string_of(&mut self, bytes: &'a [u8], array: Array) -> Result<Step<'a>, Stop>
         requires { (T : Tables) → HasElements (place_type [] (state_of T self.old.entered self.old.objects) (row_place array.row)) array.count }
         ensures comes { (p : Program) → Comes p (λ T o. from_value T p self.old (valued T p self.old.fuel (cores.string bytes.now) (Some (row_place array.row))) o) result self.new }
@@ -188,33 +179,34 @@ impl<'a> Machine<'a> {
         ensures within { (p : Program) → onward p result self.new ≤ 1 + marks_left self.old.stack.items }
     {
         if fits(bytes.len(), array.count) {
-            self.write(bytes, array.row)
+            let kind = character_kind(&self.objects, array.row);
+            self.write(bytes, kind, array.row)
         } else {
             Err(Stop::Malformed)
         }
     }
 
-    /// Zeros come into a char array, and then the bytes of a string.
-    fn write(&mut self, bytes: &'a [u8], row: Row) -> Result<Step<'a>, Stop>
+    /// Zeros come into an array of characters of this kind, and then the bytes of a string.
+    fn write(&mut self, bytes: &'a [u8], kind: Kind, row: Row) -> Result<Step<'a>, Stop>
         requires { length bytes.now < 2 ^ 32 }
-        ensures comes { (p : Program) → Comes p (λ T o. from_value T p self.old (writing T p (row_place row) bytes.now) o) result self.new }
+        ensures comes { (p : Program) → Comes p (λ T o. from_value T p self.old (writing T p kind (row_place row) bytes.now) o) result self.new }
         ensures ticks { self.new.ticks ≡ self.old.ticks }
         ensures within { (p : Program) → onward p result self.new ≤ 1 + marks_left self.old.stack.items }
     {
         match fill_zeros(&mut self.objects, row.place()) {
             Err(stop) => Err(stop),
-            Ok(()) => self.put_bytes(bytes, row),
+            Ok(()) => self.put_bytes(bytes, kind, row),
         }
     }
 
-    /// The bytes of a string come into an array of zeros.
-    fn put_bytes(&mut self, bytes: &'a [u8], row: Row) -> Result<Step<'a>, Stop>
+    /// The bytes of a string come into an array of zeros, as characters of this kind.
+    fn put_bytes(&mut self, bytes: &'a [u8], kind: Kind, row: Row) -> Result<Step<'a>, Stop>
         requires { length bytes.now < 2 ^ 32 }
-        ensures comes { (p : Program) → Comes p (λ T o. from_value T p self.old (putting_bytes T p (row_place row) bytes.now) o) result self.new }
+        ensures comes { (p : Program) → Comes p (λ T o. from_value T p self.old (putting_bytes T p kind (row_place row) bytes.now) o) result self.new }
         ensures ticks { self.new.ticks ≡ self.old.ticks }
         ensures within { (p : Program) → onward p result self.new ≤ 1 + marks_left self.old.stack.items }
     {
-        match write_bytes(&mut self.objects, row, bytes) {
+        match write_bytes(&mut self.objects, kind, row, bytes) {
             Err(stop) => Err(stop),
             Ok(()) => {
                 self.doing = Doing::Gives(Value::Built);

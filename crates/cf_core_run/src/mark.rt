@@ -68,12 +68,14 @@ pub enum ValueMark<'a> {
     Held(usize),
     /// A function of the library has given the value, and the storage of these parameters ends, the last of the list first.
     Library(Vec<usize>),
-    /// This element of an array gets the value, and the others come.
-    Element(Goal, Listing<'a>),
-    /// The static object of this number gets the value, and these others come.
-    Constant(usize, &'a [RunStatic]),
+    /// An element of an array has its value, and the others come.
+    Element(Listing<'a>),
+    /// A static object has its value, and these others come.
+    Constant(&'a [RunStatic]),
     /// A full expression ends, and the one around it has these temporaries.
     Whole(Vec<usize>),
+    /// The same of an initialiser: this goal gets the value before.
+    Stored(Goal, Vec<usize>),
 }
 
 /// What is left of a statement once the value at hand is there.
@@ -88,7 +90,7 @@ pub enum TestMark<'a> {
     Last(Repeated<'a>),
     /// The step of a `for` was done.
     Stepped(Repeated<'a>),
-    /// A local with this object gets the value.
+    /// A local with this object has its value.
     Declared(usize),
     Result,
     Switch(&'a [Node]),

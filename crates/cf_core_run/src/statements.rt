@@ -1,7 +1,8 @@
 ghost use Rattle.std.specs.Prelude.{◌≡◌, None, Some, true, false, ◌≤◌, ◌+◌};
 ghost use Rattle.cf_core.specs.Calls.{root, turn};
 ghost use Rattle.cf_core.specs.Core as nodes;
-ghost use Rattle.cf_core.specs.Run.{gives};
+ghost use Rattle.cf_core.specs.Objects.{settled};
+ghost use Rattle.cf_core.specs.Run.{gives, ◌>>◌};
 ghost use Rattle.cf_core.specs.Statements.{tests_first};
 ghost use Rattle.cf_run_tree.specs.Tree.{core_of, object_type};
 ghost use Rattle.cf_run_tree.specs.declared.program.Program.{Program};
@@ -148,12 +149,13 @@ impl<'a> Machine<'a> {
 
     /// The initialiser of a local with this object.
     fn initialise(&mut self, object: usize, start: &'a Boxed<Node>) -> Result<Step<'a>, Stop>
-        ensures comes { (p : Program) → Comes p (λ T o. from_flow T p self.old (λ s w. full T p self.old.fuel (valued T p self.old.fuel (core_of T p start.now) (Some (root object))) s w ▷ go_declared T p self.old.fuel object) o) result self.new }
+        ensures comes { (p : Program) → Comes p (λ T o. from_flow T p self.old (full T p self.old.fuel (settled [] (root object) (valued T p self.old.fuel (core_of T p start.now) (Some (root object)))) >> go_declared T p self.old.fuel object) o) result self.new }
         ensures ticks { self.new.ticks ≡ self.old.ticks }
         ensures within { (p : Program) → onward p result self.new ≤ 3 + weight start.now + marks_left self.old.stack.items }
     {
-        self.open_whole(TestMark::Declared(object))?;
-        self.doing = Doing::Evaluate(start.get(), Some(Goal::whole(object)));
+        let goal = Goal::whole(object);
+        self.open_start(goal, TestMark::Declared(object))?;
+        self.doing = Doing::Evaluate(start.get(), Some(goal));
         Ok(Step::On)
     }
 

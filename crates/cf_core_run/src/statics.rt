@@ -4,21 +4,19 @@ ghost use Rattle.cf_core.specs.Calls.{root};
 ghost use Rattle.cf_core.specs.Core as cores;
 ghost use Rattle.cf_core.specs.FromTypes.{Tables};
 ghost use Rattle.cf_core.specs.Joined as files;
-ghost use Rattle.cf_core.specs.Objects.{static_number};
+ghost use Rattle.cf_core.specs.Objects.{static_number, settled};
 ghost use Rattle.cf_core.specs.Places as places;
 ghost use Rattle.cf_core.specs.Program.{first_state};
+ghost use Rattle.cf_core.specs.Run.{◌>>◌};
 ghost use Rattle.cf_core.specs.Store.{Code};
 ghost use Rattle.cf_run_tree.specs.Tree.{core_of, object_type, program_of, static_of, static_type};
 ghost use Rattle.cf_run_tree.specs.declared.shape.ObjectType.{ObjectType as Declared};
 ghost use Rattle.cf_run_tree.specs.declared.program.Program.{Program};
-ghost use Rattle.cf_core_objects.specs.Store.{value_of};
-ghost use Rattle.cf_core_objects.specs.Then.{◌▷◌};
-ghost use Rattle.cf_core_run.specs.Going.{Comes, from_value, valued, full, called, setting, setting_with, reaching, go_constant};
+ghost use Rattle.cf_core_run.specs.Going.{Comes, from_value, valued, full, called, setting, setting_with, reaching};
 ghost use Rattle.cf_core_run.specs.Nearer.{weight, statics_left, marks_left, onward};
 
 use crate::mark::{Calling, Doing, ValueMark};
 use crate::state::{Machine, Step};
-use crate::temporaries::settle_object;
 use cf_core_objects::{Entered, Stop, Value, reach, static_objects, static_value};
 use cf_core_place::Goal;
 use cf_run_tree::{Node, Program, RunStatic};
@@ -190,32 +188,23 @@ impl<'a> Machine<'a> {
         number: usize,
         rest: &'a [RunStatic],
     ) -> Result<Step<'a>, Stop>
-        ensures comes { (p : Program) → Comes p (λ T o. from_value T p self.old (λ s w. full T p self.old.fuel (valued T p self.old.fuel (core_of T p start.now) (Some (root number))) s w ▷ go_constant T p self.old.fuel number rest.now) o) result self.new }
+        ensures comes { (p : Program) → Comes p (λ T o. from_value T p self.old (full T p self.old.fuel (settled [] (root number) (valued T p self.old.fuel (core_of T p start.now) (Some (root number)))) >> setting T p self.old.fuel rest.now) o) result self.new }
         ensures ticks { self.new.ticks ≡ self.old.ticks }
         ensures within { (p : Program) → onward p result self.new ≤ 3 + weight start.now + statics_left rest.now + marks_left self.old.stack.items }
     {
-        self.open_inner(ValueMark::Constant(number, rest))?;
-        self.doing = Doing::Evaluate(start, Some(Goal::whole(number)));
+        let goal = Goal::whole(number);
+        self.open_part(goal, ValueMark::Constant(rest))?;
+        self.doing = Doing::Evaluate(start, Some(goal));
         Ok(Step::On)
     }
 
-    /// The value of a static object is there.
-    pub fn constant(
-        &mut self,
-        number: usize,
-        rest: &'a [RunStatic],
-        v: Value<'a>,
-    ) -> Result<Step<'a>, Stop>
-        ensures comes { (p : Program) → Comes p (λ T o. from_value T p self.old (go_constant T p self.old.fuel number rest.now (value_of v.entry)) o) result self.new }
+    /// A static object has its value: the others come.
+    pub fn constant(&mut self, rest: &'a [RunStatic]) -> Result<Step<'a>, Stop>
+        ensures comes { (p : Program) → Comes p (λ T o. from_value T p self.old (setting T p self.old.fuel rest.now) o) result self.new }
         ensures ticks { self.new.ticks ≡ self.old.ticks }
         ensures within { (p : Program) → onward p result self.new ≤ 1 + statics_left rest.now + marks_left self.old.stack.items }
     {
-        match settle_object(&mut self.objects, number, v) {
-            Err(stop) => Err(stop),
-            Ok(()) => {
-                self.doing = Doing::Sets(rest);
-                Ok(Step::On)
-            }
-        }
+        self.doing = Doing::Sets(rest);
+        Ok(Step::On)
     }
 }

@@ -11,7 +11,7 @@ ghost use Rattle.cf_run_tree.specs.Tree.{core_of, shape_type};
 ghost use Rattle.cf_run_tree.specs.declared.program.Program.{Program};
 ghost use Rattle.cf_core_objects.specs.Store.{state_of, value_of};
 ghost use Rattle.cf_core_objects.specs.Then.{◌▷◌};
-ghost use Rattle.cf_core_run.specs.Going.{Comes, OpensWhole, OpensInner, from_value, valued, closed, go_temporary, go_held};
+ghost use Rattle.cf_core_run.specs.Going.{Comes, OpensWhole, OpensStart, OpensPart, from_value, valued, closed, go_stored, go_temporary, go_held};
 ghost use Rattle.cf_core_run.specs.Nearer.{weight, behind_value, behind_test, marks_left, onward};
 
 use crate::mark::{Doing, Mark, TestMark, ValueMark};
@@ -48,16 +48,29 @@ impl<'a> Machine<'a> {
         Ok(())
     }
 
-    /// A full expression begins inside an expression, without temporaries, and the mark says what its value leads to.
-    pub fn open_inner(&mut self, mark: ValueMark<'a>) -> Result<(), AllocError>
-        ensures opens { IfOk result (λ u. OpensInner self.old self.new mark.entry) }
+    /// An initialiser of this goal begins, as a full expression of its own, and the mark says what follows once its value is stored.
+    pub fn open_start(&mut self, goal: Goal, mark: TestMark<'a>) -> Result<(), AllocError>
+        ensures opens { IfOk result (λ u. OpensStart self.old self.new goal mark.entry) }
+        ensures ticks { self.new.ticks ≡ self.old.ticks }
+        ensures within { IfOk result (λ u. marks_left self.new.stack.items ≡ behind_test mark.entry + 1 + marks_left self.old.stack.items) }
+    {
+        self.stack.push(Mark::Test(self.fuel, mark))?;
+        let around = replace(&mut self.entered.temporaries, Vec::new(self.alloc));
+        self.stack
+            .push(Mark::Value(self.fuel, ValueMark::Stored(goal, around)))?;
+        Ok(())
+    }
+
+    /// The same inside an expression, or before a further initialiser.
+    pub fn open_part(&mut self, goal: Goal, mark: ValueMark<'a>) -> Result<(), AllocError>
+        ensures opens { IfOk result (λ u. OpensPart self.old self.new goal mark.entry) }
         ensures ticks { self.new.ticks ≡ self.old.ticks }
         ensures within { IfOk result (λ u. marks_left self.new.stack.items ≡ behind_value mark.entry + 1 + marks_left self.old.stack.items) }
     {
         self.stack.push(Mark::Value(self.fuel, mark))?;
         let around = replace(&mut self.entered.temporaries, Vec::new(self.alloc));
         self.stack
-            .push(Mark::Value(self.fuel, ValueMark::Whole(around)))?;
+            .push(Mark::Value(self.fuel, ValueMark::Stored(goal, around)))?;
         Ok(())
     }
 
@@ -74,6 +87,23 @@ impl<'a> Machine<'a> {
                 self.doing = Doing::Gives(v);
                 Ok(Step::On)
             }
+        }
+    }
+
+    /// The value of an initialiser is there: it is stored, and then its full expression ends.
+    pub fn close_stored(
+        &mut self,
+        goal: Goal,
+        around: Vec<usize>,
+        v: Value<'a>,
+    ) -> Result<Step<'a>, Stop>
+        ensures comes { (p : Program) → Comes p (λ T o. from_value T p self.old (go_stored T p self.old.fuel goal around.items (value_of v.entry)) o) result self.new }
+        ensures ticks { self.new.ticks ≡ self.old.ticks }
+        ensures within { (p : Program) → onward p result self.new ≤ 1 + marks_left self.old.stack.items }
+    {
+        match settle(&mut self.objects, goal.place(), v) {
+            Err(stop) => Err(stop),
+            Ok(()) => self.close_whole(around, Value::Built),
         }
     }
 

@@ -182,29 +182,23 @@ module _ (again : Again) (fs : List Function) (xs : List Static) (ks : List Sett
   listed-well s o h = well-as P L s (frame_changed (lists_in_scope o)) (well-changed P L s (λ s. record s { frame = lists_in_scope o s.frame }) (frame-behind P L s h (lists_in_scope o s.frame) refl refl refl)) (λ _ u b e. tt)
 
   -- an initialiser that builds its place by itself
-  built-stays : Stays again fs xs ks inits L (λ v u. v ≡ Built)
-  unfolding Stays
-  built-stays v s u l q = q
-
-  built-well : (s : State) (o : ℕ) (act : Act Value) → Sound P L s → ((u : State) → Behind P L s u → Well P L u (λ v u. v ≡ Built) act) → Well P L s Done (settled [] (root o) (full_expression again P act))
+  built-well : (s : State) (o : ℕ) (act : Act Value) → Sound P L s → ((u : State) → Behind P L s u → Well P L u (λ v u. v ≡ Built) act) → Well P L s Done (full_expression again P (settled [] (root o) act))
   built-well s o act h k =
-      well-then P L s (full_expression again P act) (settle [] (root o)) (full-well again fs xs ks inits L s act h built-stays k) (λ v u b e.
-      subst (λ x. Well P L u Done (settle [] (root o) x)) (sym e) (well-gives P L u tt b.sound tt))
+      full-well again fs xs ks inits L s (settled [] (root o) act) h (unit-stays _) (λ u b.
+      well-then P L u act (settle [] (root o)) (k u b) (λ v w c e.
+      subst (λ x. Well P L w Done (settle [] (root o) x)) (sym e) (well-gives P L w tt c.sound tt)))
 
   -- a scalar's initialiser
-  start-stays : (t : SourceType) → Stays again fs xs ks inits L (λ v u. (v ≡ Missing) ⊎ IsOf P u (shape t) v)
-  unfolding Stays
-  start-stays t v s u l (inl m) = inl m
-  start-stays t v s u l (inr i) = inr (is-later P s u l (shape t) v i)
-
   scalar-well : (s : State) (t : SourceType) (o : ℕ) (act : Act Value) → Sound P L s → Target s t (root o) → is_scalar t ≡ true
-      → ((u : State) → Behind P L s u → Well P L u (λ v u. (v ≡ Missing) ⊎ IsOf P u (shape t) v) act) → Well P L s Done (settled [] (root o) (full_expression again P act))
+      → ((u : State) → Behind P L s u → Well P L u (λ v u. (v ≡ Missing) ⊎ IsOf P u (shape t) v) act) → Well P L s Done (full_expression again P (settled [] (root o) act))
   scalar-well s t o act h at sc k =
-      well-then P L s (full_expression again P act) (settle [] (root o)) (full-well again fs xs ks inits L s act h (start-stays t) k) (λ v u b q.
-      well-as P L u (settle [] (root o) v) (well-settle-scalar P L u t (root o) v b.sound (target-later s u t (root o) b.later at) sc q) (λ _ w c e. tt))
+      full-well again fs xs ks inits L s (settled [] (root o) act) h (unit-stays _) (λ u b.
+      well-then P L u act (settle [] (root o)) (k u b) (λ v w c q.
+      well-as P L w (settle [] (root o) v)
+      (well-settle-scalar P L w t (root o) v c.sound (target-later u w t (root o) c.later (target-later s u t (root o) b.later at)) sc q) (λ _ x d e. tt)))
 
   simple-initial : (s : State) (t : SourceType) (o : ℕ) (e : Core) → Sound P L s → Target s t (root o) → is_simple P S e ≡ true → (typing S e).start t ≡ true
-      → Well P L s Done (settled [] (root o) (full_expression again P (value again P e (Some (root o)))))
+      → Well P L s Done (full_expression again P (settled [] (root o) (value again P e (Some (root o)))))
   simple-initial s t o e h at ok k = scalar-well s t o (value again P e (Some (root o))) h at ((G e ok).start t k) (λ u b.
       well-as P L u (value again P e (Some (root o))) ((val e ok (Some (root o))).by u b.sound (told_start t k)) (λ v w c q. started v w q))
     where
@@ -214,7 +208,7 @@ module _ (again : Again) (fs : List Function) (xs : List Static) (ks : List Sett
 
   -- a reference that binds a temporary, which is a local too
   held-initial : (s : State) (t u : SourceType) (o j : ℕ) (e : Core) → Sound P L s → Target s t (root o) → Whole u → is_function u ≡ false → is_simple P S e ≡ true → Held (typing S e) L j u t
-      → Well P L s Done (settled [] (root o) (full_expression again P (value again P (core.bind (local_temporary j u) e) (Some (root o)))))
+      → Well P L s Done (full_expression again P (settled [] (root o) (value again P (core.bind (local_temporary j u) e) (Some (root o)))))
   held-initial s t u o j e h at whole n ok k = scalar-well s t o (value again P (core.bind (local_temporary j u) e) (Some (root o))) h at k.scalar (λ v b.
       well-then P L v (new_local j u) (λ q. settled [] (root q) (value again P e (Some (root q))) >> (frame_changed (lists_in_scope q) >> gives (At (root q))))
       (new-well v j u k.local b.sound whole.proper k.there k.alike) (λ q w c at.
@@ -227,7 +221,7 @@ module _ (again : Again) (fs : List Function) (xs : List Static) (ks : List Sett
       well-gives P L y (At (root q)) g.sound (inr is)))))
 
   pub initial-well : (s : State) (t : SourceType) (o : ℕ) (e : Core) → Sound P L s → Target s t (root o) → is_proper t ≡ true → is_simple_initial P S e ≡ true → (typing S e).start t ≡ true
-      → Well P L s Done (settled [] (root o) (full_expression again P (value again P e (Some (root o)))))
+      → Well P L s Done (full_expression again P (settled [] (root o) (value again P e (Some (root o)))))
   initial-well s t o core.zeros h at p ok k = built-well s o (value again P core.zeros (Some (root o))) h (λ u b.
       well-then P L u (built_at (Some (root o)) >>= fill_zeros []) (λ _. gives Built) (zeros u (target-later s u t (root o) b.later at) b.sound) (λ _ v c q. well-gives P L v Built c.sound refl))
     where
@@ -248,9 +242,9 @@ module _ (again : Again) (fs : List Function) (xs : List Static) (ks : List Sett
       let typed = four (nat_le f.parameters i) (same_type (slice_get L i) t) (is_complete S.classes t) ((typing S e).start t) k in
       let there = local-there (slice_get L i) t typed.1 in
       well-next P L {Q = Done} s (declares again P i t e) (gives Falls)
-      (well-then P L s (new_local i t) (λ o. settled [] (root o) (full_expression again P (value again P e (Some (root o)))) >> frame_changed (lists_in_scope o))
+      (well-then P L s (new_local i t) (λ o. full_expression again P (settled [] (root o) (value again P e (Some (root o)))) >> frame_changed (lists_in_scope o))
       (new-well s i t there.0 h object.0 there.1 there.2) (λ o u d at.
-      well-next P L {Q = Done} u (settled [] (root o) (full_expression again P (value again P e (Some (root o))))) (frame_changed (lists_in_scope o))
+      well-next P L {Q = Done} u (full_expression again P (settled [] (root o) (value again P e (Some (root o))))) (frame_changed (lists_in_scope o))
       (initial-well u t o e d.sound at object.0 parts.1 typed.3) (λ _ v g q. listed-well v o g.sound))) (λ _ u d q. falls b c u d.sound)
 
   -- ---- what is returned
@@ -261,10 +255,10 @@ module _ (again : Again) (fs : List Function) (xs : List Static) (ks : List Sett
       well-then P L s (result_of again P e) (λ v. gives (Returns v))
       (well-at P L s (λ s. elim s.frame.result [
         | None ↦ full_expression again P (using (value again P e None))
-        | Some p ↦ settled [] p (full_expression again P (value again P e (Some p))) >> gives Built
+        | Some p ↦ full_expression again P (settled [] p (value again P e (Some p))) >> gives Built
       ]) h (subst (λ r. Well P L s (λ v u. IsOf P u (shape f.result) v) (elim r as (λ x. Act Value) [
         | None ↦ full_expression again P (using (value again P e None))
-        | Some p ↦ settled [] p (full_expression again P (value again P e (Some p))) >> gives Built
+        | Some p ↦ full_expression again P (settled [] p (value again P e (Some p))) >> gives Built
       ])) (sym h.result)
       (well-as P L s (full_expression again P (using (value again P e None)))
       (full-well again fs xs ks inits L s (using (value again P e None)) h (fits-stay (typing S e)) (λ u d. well-using P L u (typing S e) (value again P e None) ((val e ok None).by u d.sound (told_start f.result k)) (start-solid e ok k)))

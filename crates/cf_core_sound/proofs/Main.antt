@@ -123,13 +123,13 @@ module _ (fs : List Function) (xs : List Static) (ks : List Setting) where
         (well-as P [] s (frame_changed (λ g. record g { function = x.function }))
         (well-changed P [] s (λ s. record s { frame = record s.frame { function = x.function } }) (frame-behind P [] s h (record s.frame { function = x.function }) refl refl refl)) (λ _ u b e. tt)) (λ _ u b q.
         subst (λ act. Well P [] u (λ _ u. Unit {0}) (act >>= (λ p. changed (λ s. record s { reached = x.object ∷ s.reached })
-        >> (settled [] p (full_expression again P (value again P x.start (Some p))) >> finish_static P (static_type P x.object) p.object)))) (sym (static-place P [] x.object i number.1))
+        >> (full_expression again P (settled [] p (value again P x.start (Some p))) >> finish_static P (static_type P x.object) p.object)))) (sym (static-place P [] x.object i number.1))
         (record {
           by = λ w bytes. (well-next P [] {Q = λ _ u. Unit {0}} u (changed (λ s. record s { reached = x.object ∷ s.reached }))
-              (settled [] (root i) (full_expression again P (value again P x.start (Some (root i)))) >> finish_static P (static_type P x.object) i)
+              (full_expression again P (settled [] (root i) (value again P x.start (Some (root i)))) >> finish_static P (static_type P x.object) i)
               (well-as P [] u (changed (λ s. record s { reached = x.object ∷ s.reached })) (well-changed P [] u (λ s. record s { reached = x.object ∷ s.reached }) (reached-behind P [] u b.sound (x.object ∷ u.reached))) (λ _ v c e. tt)) (λ _ v c q.
               let there = c.sound.statics i at.object at.there in
-              well-next P [] {Q = λ _ u. Unit {0}} v (settled [] (root i) (full_expression again P (value again P x.start (Some (root i))))) (finish_static P (static_type P x.object) i)
+              well-next P [] {Q = λ _ u. Unit {0}} v (full_expression again P (settled [] (root i) (value again P x.start (Some (root i))))) (finish_static P (static_type P x.object) i)
               (initial-well again fs xs ks [] nobody around bodies v at.object.type i x.start c.sound (record { below = there.0; is = there.1 }) so.0 second.0
               (subst (λ t. (typing (outside P) x.start).start t ≡ true) type second.1)) (λ _ w d q.
               finish-well w (static_type P x.object) i d.sound))).by w bytes;

@@ -266,7 +266,7 @@ module _ (P : Program) (locals : List SourceType) where
   well-pointer ptr.Difference s x y v w h gx gy told f g =
       let e = (allowed-told (points_to_object x && pointers_alike x y) (of_value (integer Int)) told).0 in
       let t = two-pointers x y gx e in
-      allowed-int (points_to_object x && pointers_alike x y) s (difference_of [] v w) e (well-difference P locals s (shape t.0) v w h t.2 (f.type (pointer t.0) t.1) (g.value (pointer t.0) t.3))
+      allowed-int (points_to_object x && pointers_alike x y) s (difference_of v w) e (well-difference P locals s (shape t.0) v w h t.2 (f.type (pointer t.0) t.1) (g.value (pointer t.0) t.3))
   well-pointer ptr.Less s x y v w h gx gy told f g = order-well s x y nat_lt v w h gx f g told
   well-pointer ptr.Greater s x y v w h gx gy told f g = order-well s x y (λ i j. nat_lt j i) v w h gx f g told
   well-pointer ptr.LessEqual s x y v w h gx gy told f g = order-well s x y nat_le v w h gx f g told

@@ -14,7 +14,7 @@ use Rattle.cf_core.specs.declared.operators.UnaryOperator.TheVariants as sign
 use Rattle.cf_core.specs.Types.{SourceType, void, integer, enumeration, class, pointer, reference, array, takes, gives as gives_type, data_member, function_member, const, is_void, is_array, plain, element}
 use Rattle.cf_core.specs.Core.{item, past, field, within}
 use Rattle.cf_core.specs.Places.{Route, Place, inner, type_at, bound}
-use Rattle.cf_core.specs.Store.{Value, Nothing, Missing, Built, Number, Null, At, Code, DataMember, FunctionMember, is_dead}
+use Rattle.cf_core.specs.Store.{Value, Nothing, Missing, Built, Number, Null, At, Code, DataMember, FunctionMember}
 use Rattle.cf_core.specs.Run.{State, Act, ◌>>=◌, ◌>>◌, gives, need, valid, ok_or_act, null_used, not_alive, outside_array}
 use Rattle.cf_core.specs.Access.{place_type, name_part}
 use Rattle.cf_core.specs.Pointers.{Element, element_of, route_of, lone_bound, bound_of, further, up_to, moved_place, moved_value}
@@ -180,7 +180,7 @@ module _ (P : Program) (locals : List SourceType) where
       → Well P locals s (λ v u. Leads P u t v) (moved_place [] p z)
   well-moved-place s t p z h n k =
       well-at P locals s
-      (λ s. need (not (is_dead [] (s.object p.object) p.route)) not_alive
+      (λ s. need (not (s.object p.object).is_gone) not_alive
       >> (up_to (bound_of [] (s.object p.object).type (element_of p.route)) (further (element_of p.route).index z)
       >>= (λ i. gives (At (record p { route = route_of (element_of p.route) i }))))) h
       (well-need P locals s _ not_alive _ (λ _.

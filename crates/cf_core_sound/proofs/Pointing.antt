@@ -11,7 +11,7 @@ use Rattle.cf_core.specs.Places.{Place, place_eq}
 use Rattle.cf_core.specs.Store.{Value, Nothing, Missing, Built, Number, Null, At, Code, DataMember, FunctionMember}
 use Rattle.cf_core.specs.Run.{State, Act, ◌>>=◌, ◌>>◌, gives, need, null_used, not_alive, outside_array, compared, cast_from_void}
 use Rattle.cf_core.specs.Access.{place_type, number_of, used}
-use Rattle.cf_core.specs.Pointers.{element_of, same_array, both_stand, truth_value, difference_of, ordered, comparable, equal_values, from_void_value}
+use Rattle.cf_core.specs.Pointers.{element_of, same_array, both_stand, both_there, truth_value, difference_of, ordered, comparable, equal_values, from_void_value}
 use Rattle.cf_core.specs.Scalars.{as_pointer, converted_value}
 use Rattle.cf_core.specs.Calls.{Program}
 use Rattle.cf_core.specs.Typing.{is_function, is_integral}
@@ -55,12 +55,12 @@ module _ (P : Program) (locals : List SourceType) where
       by_views (a_place p e i) (a_place q f j) = subst (λ x. Well P locals s Q (go x w)) (sym e) (subst (λ y. Well P locals s Q (go (At p) y)) (sym f) (pp p q i j))
 
   pub well-difference : (s : State) (t : SourceType) (v w : Value) → Sound P locals s → is_function t ≡ false → IsOf P s (pointer t) v → IsOf P s (pointer t) w
-      → Well P locals s (λ x u. IsNumber P locals Int x) (difference_of [] v w)
-  well-difference s t v w h n k l = well-two-pointers s t (difference_of []) v w n k l
+      → Well P locals s (λ x u. IsNumber P locals Int x) (difference_of v w)
+  well-difference s t v w h n k l = well-two-pointers s t difference_of v w n k l
       (well-undefined P locals s null_used) (λ q. well-undefined P locals s null_used) (λ p. well-undefined P locals s null_used)
       (λ p q i j. well-at P locals s
-      (λ s. need (both_stand [] s p q) not_alive >> (need (same_array p q) outside_array >> gives (Number (pos (element_of p.route).index -ℤ pos (element_of q.route).index)))) h
-      (well-need P locals s (both_stand [] s p q) not_alive (need (same_array p q) outside_array >> gives (Number (pos (element_of p.route).index -ℤ pos (element_of q.route).index))) (λ _.
+      (λ s. need (both_there s p q) not_alive >> (need (same_array p q) outside_array >> gives (Number (pos (element_of p.route).index -ℤ pos (element_of q.route).index)))) h
+      (well-need P locals s (both_there s p q) not_alive (need (same_array p q) outside_array >> gives (Number (pos (element_of p.route).index -ℤ pos (element_of q.route).index))) (λ _.
       well-need P locals s (same_array p q) outside_array (gives (Number (pos (element_of p.route).index -ℤ pos (element_of q.route).index))) (λ _.
       well-gives P locals s (Number (pos (element_of p.route).index -ℤ pos (element_of q.route).index)) h (
         pos (element_of p.route).index -ℤ pos (element_of q.route).index,

@@ -63,12 +63,12 @@ moving g s p z w =
 
 pub moved-dead : (s : State) (p : Place) (site : Site) (z : ℤ) (w : World) → IsSite (s.object p.object) p.route site → site.is_gone ≡ true
     → pointers.moved_place [] p z s w ≡ Stops (Undefined not_alive) w.trace
-moved-dead s p site z w is gone = ap (λ g. moving g s p z w) (is.is_dead ∙ gone)
+moved-dead s p site z w is gone = ap (λ g. moving g s p z w) (is.is_gone ∙ gone)
 
 moved-as : (s : State) (p : Place) (site : Site) (i : ℕ) (z : ℤ) (w : World) → IsSite (s.object p.object) p.route site → site.is_gone ≡ false → (element_of p.route).index ≡ i
     → pointers.moved_place [] p z s w ≡ (up_to site.bound (further i z) s w ▷ (λ k. gives (At (record p { route = pointers.route_of (element_of p.route) k }))))
 moved-as s p site i z w is alive index =
-    ap (λ g. moving g s p z w) (is.is_dead ∙ alive)
+    ap (λ g. moving g s p z w) (is.is_gone ∙ alive)
     ∙ ap (λ n. up_to n (further (element_of p.route).index z) s w ▷ (λ k. gives (At (record p { route = pointers.route_of (element_of p.route) k })))) is.bound
     ∙ ap (λ j. up_to site.bound (further j z) s w ▷ (λ k. gives (At (record p { route = pointers.route_of (element_of p.route) k })))) index
 
@@ -105,10 +105,10 @@ no-decay s p site w is h =
     (array-as (type_at [] (s.object p.object).type p.route) ∙ ap array_sort is.sort ∙ h)
 
 -- Two places.
-pub distance-as : (s : State) (p q : Place) (both : Both) (w : World) → AreSites s p q both → pointers.difference_of [] (At p) (At q) s w ≡ asked.distance both.first.is_gone both.second.is_gone p q s w
+pub distance-as : (s : State) (p q : Place) (both : Both) (w : World) → AreSites s p q both → pointers.difference_of (At p) (At q) s w ≡ asked.distance both.first.is_gone both.second.is_gone p q s w
 distance-as s p q both w is =
-    ap (λ b. asked.distance b (is_dead [] (s.object q.object) q.route) p q s w) is.first.is_dead
-    ∙ ap (λ b. asked.distance both.first.is_gone b p q s w) is.second.is_dead
+    ap (λ b. asked.distance b (s.object q.object).is_gone p q s w) is.first.is_gone
+    ∙ ap (λ b. asked.distance both.first.is_gone b p q s w) is.second.is_gone
 
 pub order-as : (o : PointerOperator) (s : State) (p q : Place) (both : Both) (w : World) → AreSites s p q both
     → pointers.ordered [] (less_of o) (At p) (At q) s w ≡ asked.order o both.first.is_gone both.second.is_gone p q s w

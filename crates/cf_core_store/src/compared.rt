@@ -100,14 +100,14 @@ fn distance<'a>(both: Both, p: Place, q: Place) -> Result<Value<'a>, Stop>
 
 /// The number of elements from the second of two places to the first.
 fn distance_at<'a>(objects: &Objects<'_>, p: Place, q: Place) -> Result<Value<'a>, Stop>
-    ensures { (T : Tables) (e : Enter) (w : World) → Told value_of result (state_of T e objects.now) w (pointers.difference_of [] (At (place_of p)) (At (place_of q)) (state_of T e objects.now) w) }
+    ensures { (T : Tables) (e : Enter) (w : World) → Told value_of result (state_of T e objects.now) w (pointers.difference_of (At (place_of p)) (At (place_of q)) (state_of T e objects.now) w) }
 {
     distance(both_at(objects, p, q), p, q)
 }
 
 /// The difference of two pointers (5.7).
 pub fn difference<'a>(objects: &Objects<'_>, x: Value<'_>, y: Value<'_>) -> Result<Value<'a>, Stop>
-    ensures { (T : Tables) (e : Enter) (w : World) → Told value_of result (state_of T e objects.now) w (pointers.difference_of [] (value_of x.entry) (value_of y.entry) (state_of T e objects.now) w) }
+    ensures { (T : Tables) (e : Enter) (w : World) → Told value_of result (state_of T e objects.now) w (pointers.difference_of (value_of x.entry) (value_of y.entry) (state_of T e objects.now) w) }
 {
     match x {
         Value::At(p) => match y {

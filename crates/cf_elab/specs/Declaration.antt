@@ -1,5 +1,5 @@
 -- Declarations of a file or a block (3, 6.7, 7, 8).
-use Rattle.std.specs.Prelude.{ℕ, Bool, true, false, not, ◌==◌, ◌&&◌, ◌||◌, if◌then◌else◌, List, [], ◌∷◌, ◌++◌, map, codes, Option, None, Some, slice_get, is_some, bytes_eq}
+use Rattle.std.specs.Prelude.{ℕ, Bool, true, false, not, ◌==◌, ◌&&◌, ◌||◌, if◌then◌else◌, List, [], ◌∷◌, ◌++◌, length, map, codes, Option, None, Some, slice_get, is_some, bytes_eq}
 use Rattle.std.specs.Option.{option_map, option_map_or}
 use Rattle.cf_syntax.specs.declared.name.Last.{Last}
 use Rattle.cf_syntax.specs.declared.name.Last.TheVariants as last
@@ -24,7 +24,7 @@ use Rattle.cf_elab.specs.Answer.{Elab, ◌>>=◌, ◌>>◌, gives, done, breaks,
 use Rattle.cf_elab.specs.Made.{int, array_of, same_ty}
 use Rattle.cf_elab.specs.Operand.{Part, sort_of, is_function, is_void, defs}
 use Rattle.cf_elab.specs.Names.{declared_here, declare, is_file_scope, key}
-use Rattle.cf_elab.specs.Complete.{complete, type_within}
+use Rattle.cf_elab.specs.Complete.{complete, type_within, types_within}
 use Rattle.cf_elab.specs.Specifiers.{Gathered, base_type, is_typedef, is_static, is_extern, automatic_at, storage_at, earlier}
 use Rattle.cf_elab.specs.Shape.{Parameter, Shape, is_inner, function_of, Position, Shaped, whole, unbounded, typed, bounds_constant, nowhere}
 use Rattle.cf_elab.specs.Expression.{elaborated, declared}
@@ -289,10 +289,18 @@ with_name g at w shape (Some n) = declarator_of_name g at w shape n n.scopes
 abbrev pub declarator_row : Gathered → Declares → Elab (List Reached)
 declarator_row g d = with_name g d.at d.initial d.declared.shape d.declared.name
 
+-- one, which makes no type that is larger than the limit on sizes
+abbrev pub limited_declarator : Gathered → Declares → Elab (List Reached)
+limited_declarator g d = do
+  before ← known
+  xs ← declarator_row g d
+  types_within (length before.types.types)
+  gives xs
+
 abbrev pub declarators_row : Gathered → List Declares → Elab (List Reached)
 declarators_row g [] = gives []
 declarators_row g (d ∷ ds) = do
-  xs ← declarator_row g d
+  xs ← limited_declarator g d
   ys ← declarators_row g ds
   gives (xs ++ ys)
 

@@ -24,6 +24,7 @@ use Rattle.cf_elab.specs.Answer.{Elab, ◌>>=◌, ◌>>◌, gives, done, breaks,
 use Rattle.cf_elab.specs.Made.{int, void}
 use Rattle.cf_elab.specs.Operand.{defs}
 use Rattle.cf_elab.specs.Names.{scoped, is_main, key}
+use Rattle.cf_elab.specs.Complete.{types_within}
 use Rattle.cf_elab.specs.Paths.{class_of_names}
 use Rattle.cf_elab.specs.Specifiers.{Gathered, base_type, is_typedef, is_static, storage_at, earlier}
 use Rattle.cf_elab.specs.Shape.{Parameter, Shape, inner, function_of, Position, nowhere, Shaped, whole, unbounded, typed, bounds_constant}
@@ -121,8 +122,13 @@ abbrev pub type_of_shaped : Shaped → Elab ℕ
 type_of_shaped (whole t) = gives t
 type_of_shaped (unbounded t) = gives t
 
-abbrev pub named_definition : Gathered → ℕ → Shape → List WrittenInit → Elab Node → WrittenName → Elab (Unit {0})
-named_definition g at s inits run n = do
+abbrev pub are_some : List WrittenInit → Bool
+are_some [] = false
+are_some (i ∷ is) = true
+
+-- before the body no type that was made since there were so many is larger than the limit on sizes
+abbrev pub named_definition : ℕ → Gathered → ℕ → Shape → List WrittenInit → Elab Node → WrittenName → Elab (Unit {0})
+named_definition count g at s inits run n = do
   base ← base_type g
   env ← known
   none_at (definition_conflict (declares_function env base s) at g) 24
@@ -134,8 +140,9 @@ named_definition g at s inits run n = do
   bounds_constant s
   need_plain_name n.last n.last_at
   i ← int
-  k ← declare_function i (function_says g n t s true false)
+  k ← declare_function i (function_says g n t s true (are_some inits))
   no_initialisers inits
+  types_within count
   now ← known
   define_function ps run (slice_get now.entries k)
 
@@ -222,18 +229,19 @@ abbrev pub is_function_defined : Env → Name → Bool
 is_function_defined env link = list_any (λ (f : CoreFn). bytes_eq f.name link) env.functions
 
 -- no such member K16; another result K8; a second body K8
-abbrev pub define_declared : ℕ → ℕ → ℕ → List Parameter → List WrittenInit → Elab Node → MemberRef → Option MemberDef → Elab (Unit {0})
-define_declared at c t ps inits run m None = breaks 16 at
-define_declared at c t ps inits run m (Some d) = do
+abbrev pub define_declared : ℕ → ℕ → ℕ → ℕ → List Parameter → List WrittenInit → Elab Node → MemberRef → Option MemberDef → Elab (Unit {0})
+define_declared count at c t ps inits run m None = breaks 16 at
+define_declared count at c t ps inits run m (Some d) = do
   env ← known
   need (result_of (fun_at env.types d.ty) == result_of (fun_at env.types t)) 8 at
   need (not (d.is_inline || is_function_defined env (method_link env m d))) 8 at
+  types_within count
   define_member m ps inits run (Some d)
 
-abbrev pub first_member : ℕ → ℕ → ℕ → List Parameter → List WrittenInit → Elab Node → List ℕ → Elab (Unit {0})
-first_member at c t ps inits run [] = breaks 16 at
-first_member at c t ps inits run (i ∷ is) =
-    known >>= (λ env. define_declared at c t ps inits run (record { class = c; index = i }) (member_at env (record { class = c; index = i })))
+abbrev pub first_member : ℕ → ℕ → ℕ → ℕ → List Parameter → List WrittenInit → Elab Node → List ℕ → Elab (Unit {0})
+first_member count at c t ps inits run [] = breaks 16 at
+first_member count at c t ps inits run (i ∷ is) =
+    known >>= (λ env. define_declared count at c t ps inits run (record { class = c; index = i }) (member_at env (record { class = c; index = i })))
 
 abbrev pub outside_kind : Env → ℕ → Last → MethodKind
 outside_kind env c (last.Ident name) = if bytes_eq name (label_name env c) then constructs else ordinary
@@ -251,8 +259,8 @@ need_outside_form env g at c other = done
 abbrev pub any_const : Position
 any_const = record { unbounded = false; const_function = true }
 
-abbrev pub member_definition : Gathered → ℕ → Shape → List WrittenInit → Elab Node → WrittenName → ℕ → Elab (Unit {0})
-member_definition g at s inits run n c = do
+abbrev pub member_definition : ℕ → Gathered → ℕ → Shape → List WrittenInit → Elab Node → WrittenName → ℕ → Elab (Unit {0})
+member_definition count g at s inits run n c = do
   env ← known
   none_at (definition_conflict (is_some (function_of s)) at g) 24
   no_definition g s
@@ -264,18 +272,18 @@ member_definition g at s inits run n c = do
   now ← known
   need (is_some (definition (defs now) c)) 30 n.last_at
   need_outside_form now g n.last_at c (outside_kind now c n.last)
-  first_member n.last_at c t ps inits run (method_at now c (member_key now c n.last t) t)
+  first_member count n.last_at c t ps inits run (method_at now c (member_key now c n.last t) t)
 
-abbrev pub qualified_definition : Gathered → ℕ → Elab Shape → List WrittenInit → Elab Node → WrittenName → Name → List Name → Elab (Unit {0})
-qualified_definition g at shape inits run n q qs = do
+abbrev pub qualified_definition : ℕ → Gathered → ℕ → Elab Shape → List WrittenInit → Elab Node → WrittenName → Name → List Name → Elab (Unit {0})
+qualified_definition count g at shape inits run n q qs = do
   c ← class_of_names n.at n.from_file q qs
   s ← in_class_scope c shape
-  member_definition g at s inits run n c
+  member_definition count g at s inits run n c
 
-abbrev pub definition_of_name : Gathered → ℕ → Elab Shape → List WrittenInit → Elab Node → WrittenName → List Name → Elab (Unit {0})
-definition_of_name g at shape inits run n [] = shape >>= (λ s. named_definition g at s inits run n)
-definition_of_name g at shape inits run n (q ∷ qs) = qualified_definition g at shape inits run n q qs
+abbrev pub definition_of_name : ℕ → Gathered → ℕ → Elab Shape → List WrittenInit → Elab Node → WrittenName → List Name → Elab (Unit {0})
+definition_of_name count g at shape inits run n [] = shape >>= (λ s. named_definition count g at s inits run n)
+definition_of_name count g at shape inits run n (q ∷ qs) = qualified_definition count g at shape inits run n q qs
 
-abbrev pub with_written_name : Gathered → ℕ → Elab Shape → List WrittenInit → Elab Node → Option WrittenName → Elab (Unit {0})
-with_written_name g at shape inits run None = shape >>= (λ s. breaks 26 at)
-with_written_name g at shape inits run (Some n) = definition_of_name g at shape inits run n n.scopes
+abbrev pub with_written_name : ℕ → Gathered → ℕ → Elab Shape → List WrittenInit → Elab Node → Option WrittenName → Elab (Unit {0})
+with_written_name count g at shape inits run None = shape >>= (λ s. breaks 26 at)
+with_written_name count g at shape inits run (Some n) = definition_of_name count g at shape inits run n n.scopes

@@ -41,7 +41,7 @@ pub record Says : Type 0 where
   pub is_static : Bool
   pub is_inline : Bool
   pub defines : Bool
-  pub is_initialised : Bool  -- whether an initialiser stands behind it, which it may not have (8.4)
+  pub is_initialised : Bool  -- whether an initialiser stands behind it, which it may not have (8.4, 12.6.2)
 
 abbrev pub says_internal : Says → Bool
 says_internal d = d.is_static || d.is_inline
@@ -150,10 +150,14 @@ known_entry d n f = do
   set_entry n (record f { defaults = ds; is_defined = f.is_defined || d.defines })
   gives n
 
+-- what has an initialiser is refused behind it (8.4), and gets no link name: so what the initialiser breaks comes before the limit on names
+abbrev pub said_link : Env → Says → Name
+said_link env d = if d.is_initialised then [] else function_link env d.called d.type
+
 abbrev pub entry : Env → Says → List Default → FunctionEntry
 entry env d ds = record {
   name = d.name;
-  link = function_link env d.called d.type;
+  link = said_link env d;
   type = d.type;
   defaults = ds;
   at = d.at;
@@ -176,7 +180,7 @@ new_entry d = do
   need (parameters_complete env d) 30 d.at
   need_single env d
   need_definition env d
-  name_within (function_link env d.called d.type)
+  name_within (said_link env d)
   changed (λ e. record e { entries = e.entries ++ entry env d ds ∷ [] })
   gives (length env.entries)
 

@@ -159,13 +159,13 @@ declaration_of at specifiers ds = do
 abbrev pub declaration_step : Declaration-F MemberRow SpecifierRow (Elab Made) ClassRow FunctionRow DeclarationRow → DeclarationRow
 declaration_step d = record { at = d.at; run = declaration_of d.at d.specifiers (map declares d.declarators) }
 
--- a function with its body
+-- a function with its body; behind it the types that its expressions made count too
 abbrev pub definition_row : List SpecifierRow → ℕ → Declared → List WrittenInit → Elab Node → Elab (Unit {0})
 definition_row specifiers at d inits body = do
   before ← known
   ws ← words None specifiers
   ws.later
-  with_written_name (gathered ws.list) at d.shape inits body d.name
+  with_written_name (length before.types.types) (gathered ws.list) at d.shape inits body d.name
   types_within (length before.types.types)
 
 abbrev pub method_of_name : Gathered → ℕ → Shape → List WrittenInit → Elab Node → Option WrittenName → Elab (Elab (Unit {0}))

@@ -13,7 +13,7 @@ use Rattle.cf_elab.specs.Arguments.{fun_at}
 use Rattle.cf_elab.specs.Complete.{complete, name_within}
 use Rattle.cf_elab.specs.Env.{Env, Name, Default, FunctionEntry}
 use Rattle.cf_elab.specs.Functions as functions
-use Rattle.cf_elab.specs.Functions.{Says, default_fault, earlier_defaults, new_defaults, entry, function_link, parameters_complete}
+use Rattle.cf_elab.specs.Functions.{Says, default_fault, earlier_defaults, new_defaults, entry, said_link, parameters_complete}
 use Rattle.cf_elab.specs.Shape.{Parameter}
 use Rattle.cf_elab_env.specs.Holds.{IsEnv}
 use Rattle.cf_elab_env.proofs.Sorts.{all_complete}
@@ -70,18 +70,15 @@ module _ (env : Env) (e : IsEnv env) (d : Says) where
       or-true true = refl
       or-true false = refl
 
-  abbrev link : Name
-  link = links.function_link env d.called d.type
-
   -- where its declaration gives no default arguments
   pub new_from : functions.defaults_of d [] env ≡ Made [] env → shut.new_entry d env
       ≡ onward (shut.need_single d env) (λ _ e. onward (shut.need_definition d e) (λ _ g.
-      onward (links.name_or_limit (links.function_link env d.called d.type) g) (λ l f. Made (length env.entries) (entered env d l f))))
-  unfolding shut.new_entry shut.need_single shut.need_definition links.name_or_limit links.function_link
+      onward (links.name_or_limit (shut.said_link env d) g) (λ l f. Made (length env.entries) (entered env d l f))))
+  unfolding shut.new_entry shut.need_single shut.need_definition shut.said_link links.name_or_limit
   new_from given = ap (λ a. onward a rest) given ∙ ap behind parameters_fine ∙ by (env.extent.overloads || not (list_any (λ (f : FunctionEntry). bytes_eq f.name d.name) env.entries))
     where
       tail : Env → Answer ℕ
-      tail g = onward (name_within (function_link env d.called d.type) g) (λ _ h. Made (length env.entries) (entered env d (function_link env d.called d.type) h))
+      tail g = onward (name_within (said_link env d) g) (λ _ h. Made (length env.entries) (entered env d (said_link env d) h))
 
       behind : Bool → Answer ℕ
       behind b = onward (need b 30 d.at env) (λ _ f. onward (functions.need_single env d f) (λ _ g. onward (functions.need_definition env d g) (λ _ h. tail h)))
@@ -89,13 +86,13 @@ module _ (env : Env) (e : IsEnv env) (d : Says) where
       rest : List Default → Env → Answer ℕ
       rest ds f =
           onward (need (parameters_complete f d) 30 d.at f) (λ _ g. onward (functions.need_single f d g) (λ _ h. onward (functions.need_definition f d h) (λ _ i.
-          onward (name_within (function_link f d.called d.type) i) (λ _ j. Made (length f.entries) (record j { entries = j.entries ++ entry f d ds ∷ [] })))))
+          onward (name_within (said_link f d) i) (λ _ j. Made (length f.entries) (record j { entries = j.entries ++ entry f d ds ∷ [] })))))
 
       paired_tail : Env → Answer ℕ
-      paired_tail g = onward (onward (name_within (function_link env d.called d.type) g) (λ _ h. Made (function_link env d.called d.type) h)) (λ l f. Made (length env.entries) (entered env d l f))
+      paired_tail g = onward (onward (name_within (said_link env d) g) (λ _ h. Made (said_link env d) h)) (λ l f. Made (length env.entries) (entered env d l f))
 
       by_definition : (b : Bool) → onward (need b 48 d.at env) (λ _ g. tail g) ≡ onward (need b 48 d.at env) (λ _ g. paired_tail g)
-      by_definition true = paired (name_within (function_link env d.called d.type) env) (function_link env d.called d.type) (length env.entries) (entered env d)
+      by_definition true = paired (name_within (said_link env d) env) (said_link env d) (length env.entries) (entered env d)
       by_definition false = refl
 
       by : (b : Bool) → onward (need b 48 d.at env) (λ _ g. onward (functions.need_definition env d g) (λ _ h. tail h))
@@ -116,7 +113,7 @@ module _ (env : Env) (d : Says) (none : d.parameters ≡ []) where
 
   pub new_is : IsEnv env → shut.new_entry d env
       ≡ onward (shut.need_single d env) (λ _ e. onward (shut.need_definition d e) (λ _ g.
-      onward (links.name_or_limit (links.function_link env d.called d.type) g) (λ l f. Made (length env.entries) (entered env d l f))))
+      onward (links.name_or_limit (shut.said_link env d) g) (λ l f. Made (length env.entries) (entered env d l f))))
   new_is e = new_from env e d defaults_are
 
 pub ruleset new_laws = (new_is)

@@ -40,7 +40,7 @@ module _ (env : Env) (e : IsEnv env) (d : Says) (all : All NoDefault d.parameter
       ∙ nothing_new types_of d.parameters (length types_of - 0) env all
 
   new_same : shut.new_entry d env ≡ shut.new_entry bare env
-  unfolding shut.need_single shut.need_definition
+  unfolding shut.need_single shut.need_definition shut.said_link
   new_same = new_from env e d no_defaults_given ∙ sym (new_is env bare refl e)
 
   -- as the definition has it

@@ -5,7 +5,7 @@ use Rattle.cf_types.specs.Table.{Table}
 use Rattle.cf_classes.specs.TypeTree as tree
 use Rattle.cf_elab.specs.Answer.{Elab, ◌>>=◌, ◌>>◌, known, need}
 use Rattle.cf_elab.specs.Arguments as arguments
-use Rattle.cf_elab.specs.Env.{Env, FunctionEntry}
+use Rattle.cf_elab.specs.Env.{Env, Name, FunctionEntry}
 use Rattle.cf_elab.specs.Functions as functions
 use Rattle.cf_elab.specs.Functions.{Says}
 
@@ -44,6 +44,10 @@ need_definition d = known >>= (λ env. functions.need_definition env d)
 
 unfoldable pub need_single : Says → Elab (Unit {0})
 need_single d = known >>= (λ env. functions.need_single env d)
+
+-- the link name, which is empty where an initialiser stands behind the declaration
+unfoldable pub said_link : Env → Says → Name
+said_link = functions.said_link
 
 unfoldable pub new_entry : Says → Elab ℕ
 new_entry = functions.new_entry

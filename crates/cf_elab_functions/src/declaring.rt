@@ -58,8 +58,8 @@ fn entry_or_new(env: &mut Env, says: &Says, found: Option<u32>) -> Result<u32, S
     }
 }
 
-/// A function that no declaration before said: it is the only one of its name and the file defines it, else K48; and its link name is within the limit on
-/// names.
+/// A function that no declaration before said: it is the only one of its name and the file defines it, else K48; and its link name, if it has no initialiser,
+/// is within the limit on names.
 #[tactic(auto, using(crate::proofs::NewLaws::new_laws))]
 fn new_entry(env: &mut Env, says: &Says) -> Result<u32, Stop>
     requires known { IsType env.old.types says.now.ty }
@@ -72,7 +72,7 @@ fn new_entry(env: &mut Env, says: &Says) -> Result<u32, Stop>
     env.holds();
     check_single(env, says)?;
     check_definition(env, says)?;
-    let link = link_of(env, says)?;
+    let link = said_link(env, says)?;
     let name = Name::from_slice(env.alloc(), says.name.as_slice())?;
     let number = env.add_entry(FunctionEntry {
         name,
@@ -85,7 +85,21 @@ fn new_entry(env: &mut Env, says: &Says) -> Result<u32, Stop>
     Ok(number)
 }
 
-/// Its link name, where it is within the limit on names.
+/// Its link name, where it is within the limit on names; where an initialiser stands behind it, which it may not have, it has none.
+#[tactic(auto, using(crate::proofs::LinkLaws::said_laws))]
+fn said_link(env: &Env, says: &Says) -> Result<Name, Stop>
+    requires { IsType env.now.types says.now.ty }
+    ensures { Agrees (links.name_or_limit (shut.said_link env.now (says_seen says.now)) env.now) result env.now }
+{
+    if says.is_initialised {
+        Ok(Name::new(env.alloc()))
+    } else {
+        let link = link_of(env, says)?;
+        Ok(link)
+    }
+}
+
+/// The link name of the function, where it is within the limit on names.
 #[tactic(auto, using(crate::proofs::LinkLaws::link_laws))]
 fn link_of(env: &Env, says: &Says) -> Result<Name, Stop>
     requires { IsType env.now.types says.now.ty }

@@ -24,8 +24,8 @@ use Rattle.cf_core_sound.specs.Programs as programs
 use Rattle.cf_core_sound.specs.Programs.{in_program, is_sound_function, is_sound_static, outside, is_sound_setting, is_main, is_sound_program}
 use Rattle.cf_core_sound.proofs.Runs.{at-all}
 use Rattle.cf_sequence.specs.Built.{is_chain, is_statement, declares_last, is_none, is_plain_role, is_body, is_built_function, is_built_static, is_constant_start, is_element, is_held, has_mark, is_built_file}
-use Rattle.cf_sequence.specs.Statements.{type_of_static}
-use Rattle.cf_sequence.proofs.Constants.{constant-element, something-constant}
+use Rattle.cf_sequence.specs.Statements.{type_of_static, binds}
+use Rattle.cf_sequence.proofs.Constants.{constant-element, something-constant, by-set, bound-binds}
 use Rattle.cf_file_sound.specs.Files.{alone, is_sound_tree, is_sound_body, is_sound_object, stands_for_main, is_sound_file}
 use Rattle.cf_file_sound.proofs.Typed.{never, same-element}
 use Rattle.cf_file_sound.proofs.Fitting.{there, same-fits}
@@ -133,12 +133,9 @@ module _ (functions : List Function) (statics : List Static) where
         same : type_of_static statics x.name ≡ x.type
         same = own-type statics statics-differ unmarked i x at own-built.1
 
-        -- it is constant, no reference, and set by what is built
-        abbrev of_type : SourceType → Bool
-        of_type t = not (is_reference t) && is_constant_start t x.start
-
-        formed : (not (is_reference x.type) ≡ true) × (is_constant_start x.type x.start ≡ true)
-        formed = both (not (is_reference x.type)) (is_constant_start x.type x.start) (ap of_type (sym same) ∙ (both x.is_constant (of_type (type_of_static statics x.name)) own-built.0).1)
+        -- it is constant, and set by what is built
+        formed : is_constant_start x.type x.start ≡ true
+        formed = ap (λ t. is_constant_start t x.start) (sym same) ∙ (both x.is_constant (is_constant_start (type_of_static statics x.name) x.start) own-built.0).1
 
         abbrev begun : Bool
         begun = (is_some x.owner && is_nothing x.start) || (typing (outside (alone file)) x.start).start x.type
@@ -146,11 +143,21 @@ module _ (functions : List Function) (statics : List Static) where
         fitting : (is_complete [] x.type ≡ true) × (begun ≡ true)
         fitting = both (is_complete [] x.type) begun (both (is_complete [] x.type && begun) (owner_fits file x.owner) fit).0
 
+        abbrev sound_parts : Bool
+        sound_parts = is_proper x.type && is_sound_tree file (outside (alone file)) x.start
+
+        -- it is no reference
+        other : (not (is_reference x.type) ≡ true) × (not (binds x.start) && sound_parts ≡ true)
+        other = both (not (is_reference x.type)) (not (binds x.start) && sound_parts) (both (not (is_library x.name)) (not (is_reference x.type) && (not (binds x.start) && sound_parts)) sound).1
+
+        unbound : (not (binds x.start) ≡ true) × (sound_parts ≡ true)
+        unbound = both (not (binds x.start)) sound_parts other.1
+
         good : (is_proper x.type ≡ true) × (is_sound_tree file (outside (alone file)) x.start ≡ true)
-        good = both (is_proper x.type) (is_sound_tree file (outside (alone file)) x.start) (both (not (is_library x.name)) (is_proper x.type && is_sound_tree file (outside (alone file)) x.start) sound).1
+        good = both (is_proper x.type) (is_sound_tree file (outside (alone file)) x.start) unbound.1
 
         pub static-sound : is_sound_static (static_in_file r x) ≡ true
-        static-sound = all_of (is_object x.type) (not (is_reference x.type)) (all_of (is_proper x.type) (not (is_function x.type)) good.0 (complete-object [] x.type fitting.0)) formed.0
+        static-sound = all_of (is_object x.type) (not (is_reference x.type)) (all_of (is_proper x.type) (not (is_function x.type)) good.0 (complete-object [] x.type fitting.0)) other.0
 
         named : has_object P (r x.name) ≡ true
         named = has functions statics x.name (placed-any (λ (y : Static). bytes_eq y.name x.name) statics ∙ any-at (λ (y : Static). bytes_eq y.name x.name) statics i x at (bytes_same x.name x.name refl))
@@ -158,7 +165,9 @@ module _ (functions : List Function) (statics : List Static) where
         pub setting-sound : (name : Name) → sets_constant (static_in_file r x) ≡ true → is_sound_setting P (constant_setting name (static_in_file r x)) ≡ true
         setting-sound name sets =
             let something : is_nothing x.start ≡ false = still x.start (negated (is_nothing (renamed r x.start)) (both x.is_constant (not (is_nothing (renamed r x.start))) sets).1) in
-            let element = constant-element x.type x.start (something-constant x.type x.start formed.1 something) in
+            let element =
+            by-set x.type x.start (something-constant x.type x.start formed something) (λ bound. never (sym (ap not (bound-binds x.start bound)) ∙ unbound.0))
+            (λ object constant. constant-element x.type x.start constant) in
             let begins = or-false (is_some x.owner && is_nothing x.start) ((typing (outside (alone file)) x.start).start x.type) (first-none (is_some x.owner) (is_nothing x.start) something) fitting.1 in
             let simple = is_simple_initial P (outside P) (renamed r x.start) in
             let starts = (typing (outside P) (renamed r x.start)).start (static_type P (r x.name)) in
@@ -205,7 +214,7 @@ module _ (functions : List Function) (statics : List Static) where
       let is_own : Static → Bool = λ x. is_built_static statics x && is_unmarked x in
       let b = both (list_all is_own statics) (list_all is_built_function functions) built in
       all-by (λ (x : Static). x.is_constant) statics
-      (λ i x at. (both x.is_constant (not (is_reference (type_of_static statics x.name)) && is_constant_start (type_of_static statics x.name) x.start)
+      (λ i x at. (both x.is_constant (is_constant_start (type_of_static statics x.name) x.start)
       (both (is_built_static statics x) (is_unmarked x) (at-all is_own statics i x b.0 at)).0).0)
 
   of-parts : valid_file whole_file ≡ true → is_built_file whole_file ≡ true → is_sound_file whole_file ≡ true → is_sound_program Q ≡ true
@@ -222,7 +231,7 @@ module _ (functions : List Function) (statics : List Static) where
       let fit_at : (i : ℕ) (x : Static) → slice_get statics i ≡ Some x → static_fits whole_file x ≡ true = λ i x at. at-all (static_fits whole_file) statics i x v1.1 at in
       let library : list_all (λ (x : Static). not (is_library x.name)) statics ≡ true =
       all-by (λ (x : Static). not (is_library x.name)) statics
-      (λ i x at. (both (not (is_library x.name)) (is_proper x.type && is_sound_tree whole_file (outside (alone whole_file)) x.start) (sound_at i x at)).0) in
+      (λ i x at. (both (not (is_library x.name)) _ (sound_at i x at)).0) in
       let outside_names = main-outside functions statics v2.0 (main-there (find stands_for_main functions) s1.0) in
       let stays = main-stays (local_names whole_file) outside_names in
       let functions_sound = list_all (is_sound_function Q) Q.functions in

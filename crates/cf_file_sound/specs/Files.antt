@@ -4,6 +4,7 @@ use Rattle.std.specs.List.{list_all}
 use Rattle.cf_core.specs.Core as core
 use Rattle.cf_core.specs.Core.{Core, Holder, no_temporary, local_temporary, static_temporary, Function, Static, CoreFile}
 use Rattle.cf_core.specs.Nodes.{nodes}
+use Rattle.cf_core.specs.Places.{is_reference}
 use Rattle.cf_core.specs.Calls.{Program, is_library}
 use Rattle.cf_core.specs.Typing.{Scope, is_function}
 use Rattle.cf_core.specs.Valid.{body_of}
@@ -11,6 +12,7 @@ use Rattle.cf_core_sound.specs.Proper.{most, is_proper}
 use Rattle.cf_core_sound.specs.Simple.{is_whole, has_object, function_fits, keeps_functions}
 use Rattle.cf_core_sound.specs.Calls.{frame_types}
 use Rattle.cf_core_sound.specs.Programs.{outside, is_main}
+use Rattle.cf_sequence.specs.Statements.{binds}
 
 -- the file as a program by its own names, in which nothing is set
 abbrev pub alone : CoreFile → Program
@@ -47,9 +49,11 @@ module _ (file : CoreFile) (scope : Scope) where
 abbrev pub is_sound_body : CoreFile → Function → Bool
 is_sound_body file f = list_all is_proper (frame_types f) && is_sound_tree file (body_of file f).scope f.body
 
--- an object of the file's, which has no name of the library's, and what sets it
+-- an object of the file's, which is no reference and has no name of the library's, and what sets it
 abbrev pub is_sound_object : CoreFile → Static → Bool
-is_sound_object file x = not (is_library x.name) && (is_proper x.type && is_sound_tree file (outside (alone file)) x.start)
+is_sound_object file x =
+    not (is_library x.name)
+    && (not (is_reference x.type) && (not (binds x.start) && (is_proper x.type && is_sound_tree file (outside (alone file)) x.start)))
 
 -- a function of the name of `main` that is not the file's alone
 abbrev pub stands_for_main : Function → Bool

@@ -8,6 +8,7 @@ use Rattle.cf_core.specs.declared.operators.PointerOperator.TheVariants as point
 use Rattle.cf_core.specs.declared.operators.UnaryOperator.TheVariants as sign
 use Rattle.cf_core.specs.Types.{Name, SourceType, integer, array, plain, element}
 use Rattle.cf_core.specs.Classes.{Class}
+use Rattle.cf_core.specs.Objects.{character_kind}
 use Rattle.cf_core.specs.Size.{size}
 use Rattle.cf_lower_layout.specs.Sorts.{Sort, number, address, code, sort_of}
 use Rattle.cf_plain.specs.Plain as plain
@@ -131,7 +132,7 @@ module _ (classes : List Class) where
   stored x v = []
 
   abbrev pub stored_bytes : Known → List ℕ → List Statement
-  stored_bytes (at n o t) bytes = put_bytes (at_byte n o) 0 bytes
+  stored_bytes (at n o t) bytes = put_bytes (character_kind t) (at_byte n o) 0 bytes
   stored_bytes x bytes = []
 
   -- Static storage is 0 before, so zeros need no store.

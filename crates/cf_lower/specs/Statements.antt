@@ -1,10 +1,12 @@
 -- The C statements of plain statements.
 use Rattle.std.specs.Prelude.{ℕ, zero, suc, ◌+◌, ◌*◌, List, [], ◌∷◌, ◌++◌, map, pos, Option, Some, None}
+use Rattle.cf_base.specs.declared.kind.Kind.{Kind}
 use Rattle.cf_base.specs.declared.kind.Kind.TheVariants.{Char, Int}
 use Rattle.cf_base.specs.declared.arith.Arith.TheVariants as op
 use Rattle.cf_base.specs.Integers.{convert as converted_to}
 use Rattle.cf_core.specs.Types.{Name, SourceType, array, const, parameters, result as result_type}
 use Rattle.cf_core.specs.Classes.{Class}
+use Rattle.cf_core.specs.Objects.{character_kind}
 use Rattle.cf_core.specs.Size.{size}
 use Rattle.cf_lower_layout.specs.Sorts.{Sort, number, address, code, sort_of}
 use Rattle.cf_plain.specs.Plain as plain
@@ -17,7 +19,7 @@ use Rattle.cc_whole.specs.Plain.{Expression, Statement, SwitchItems, Body, named
 use Rattle.cf_lower.specs.Kept.{Kept, holds, argument, Keeping, local_kept, Locals, kept_by, after, untouched}
 use Rattle.cf_lower.specs.Written.{if_scalar, c_type, int_constant, result_of, local_name, register_name, flag_name, result_name}
 use Rattle.cf_lower.specs.Expressions as value
-use Rattle.cf_lower.specs.Expressions.{zero as nought, in_register, integer_in, address_in, value_in, as_value, as_stored}
+use Rattle.cf_lower.specs.Expressions.{zero as nought, constant_of, in_register, integer_in, address_in, value_in, as_value, as_stored}
 
 -- what a statement stands in: its function, how many flags are in use around it, and the C of leaving and of going on with the loop or switch around it
 pub record Inside : Type 0 where
@@ -72,13 +74,19 @@ abbrev pub zeros_in : List Class → Kept → Register → List Statement
 zeros_in classes (holds (address t)) r = zeros classes t (address_in r) 0
 zeros_in classes x r = []
 
-abbrev pub put_bytes : Expression → ℕ → List ℕ → List Statement
-put_bytes p i [] = []
-put_bytes p i (b ∷ rest) = put (number Char) (behind p i) (constant (constants.Signed (converted_to Char (pos b)))) ∷ put_bytes p (suc i) rest
+-- the bytes of a literal from an address on, as characters of this kind
+abbrev pub put_bytes : Kind → Expression → ℕ → List ℕ → List Statement
+put_bytes k p i [] = []
+put_bytes k p i (b ∷ rest) = put (number k) (behind p i) (constant_of (converted_to k (pos b))) ∷ put_bytes k p (suc i) rest
+
+-- the kind of the characters of the array whose place is in a register
+abbrev pub kind_in : Kept → Kind
+kind_in (holds (address t)) = character_kind t
+kind_in x = Char
 
 -- the bytes of a literal, and 0 behind (8.4.2)
 abbrev pub bytes_in : List Class → Kept → Register → List ℕ → List Statement
-bytes_in classes x r bytes = zeros_in classes x r ++ put_bytes (address_in r) 0 bytes
+bytes_in classes x r bytes = zeros_in classes x r ++ put_bytes (kind_in x) (address_in r) 0 bytes
 
 -- ---- calls
 

@@ -313,7 +313,9 @@ module _ (z : Scene) (fits : Fits z) (around : Around Keeping) (p : Keeping) whe
 
   bytes-by : (r : Register) (b : List ℕ) (x : Kept) → p r ≡ x → are_chars x ≡ true → (n : ℕ) (g : Registers) (s : State) (t : c.State) (w : World)
       → Here (fixed_in z) z.body p (depth_of around) g s t → IsThere z.program.classes g s r → AlikeAt z around p (act (plain.bytes r b)) n g s t w
-  bytes-by r b (holds (address (array (integer Char) len))) kr e n g s t w h there = bytes-done z fits around p n g s t w h r len kr there b
+  bytes-by r b (holds (address (array (integer Char) len))) kr e n g s t w h there = bytes-done z fits around p n g s t w h r Char refl len kr there b
+  bytes-by r b (holds (address (array (integer SChar) len))) kr e n g s t w h there = bytes-done z fits around p n g s t w h r SChar refl len kr there b
+  bytes-by r b (holds (address (array (integer UChar) len))) kr e n g s t w h there = bytes-done z fits around p n g s t w h r UChar refl len kr there b
   bytes-by r b x kr e n g s t w h there = absurd (cc)
 
   -- a literal, by its text

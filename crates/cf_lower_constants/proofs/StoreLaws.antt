@@ -1,8 +1,11 @@
--- The store of a known value in a scalar, by its cell.
+-- The stores of a known value in a scalar, by its cell, and of the bytes of a literal.
 use Rattle.std.proofs.Common.{◌≡◌, ℕ, List, ◌++◌, Option, Some, None, refl, sym, ap, ◌∙◌}
 use Rattle.std.specs.Option.{option_map}
 use Rattle.cc_whole.specs.Plain.{Expression, Statement}
+use Rattle.cf_base.specs.declared.kind.Kind.{Kind}
 use Rattle.cf_core.specs.FromTypes.{Tables, type_of}
+use Rattle.cf_core.specs.Objects.{character_kind}
+use Rattle.cf_lower_layout.proofs.Characters.{kind_by_bare}
 use Rattle.cf_lower_layout.specs.Sorts.{Sort, number, address, code, sort_of}
 use Rattle.cf_lower_names.specs.declared.cell.Cell.{Cell}
 use Rattle.cf_lower_names.specs.Cells.{sort_for, cell_of}
@@ -12,7 +15,8 @@ use Rattle.cf_lower_types.proofs.Scalars.{sort_by_bare}
 use Rattle.cf_lower_stmt.proofs.Cells.{as_cell, cell_is}
 use Rattle.cf_core.specs.Classes.{Class}
 use Rattle.cf_core.specs.Types.{Name}
-use Rattle.cf_lower.specs.Constants.{Known, at_byte, stored, written as value_of}
+use Rattle.cf_lower.specs.Constants.{Known, at_byte, stored, stored_bytes, written as value_of}
+use Rattle.cf_lower.specs.Statements.{put_bytes}
 use Rattle.cf_lower_constants.specs.declared.known.Target.{Target}
 use Rattle.cf_lower_constants.specs.declared.known.Target.TheVariants as target
 use Rattle.cf_lower_constants.specs.declared.known.Fact.{Fact}
@@ -38,3 +42,13 @@ stored_at tables cs f t n o v w u p q is same cell made =
 pub bare_sort : (tables : Tables) (k : Target) (t : ℕ) (s : Option Scalar) → k ≡ target.Bare t → option_map (sort_in tables) s ≡ sort_of (type_of tables t)
     → option_map (sort_in tables) s ≡ sort_of (target_in tables k)
 bare_sort tables k t s e is = is ∙ sym (sort_by_bare tables t) ∙ sym (ap (λ u. sort_of (target_in tables u)) e)
+
+-- ---- the bytes of a literal
+
+pub bare_kind : (tables : Tables) (k : Target) (t : ℕ) (l : Kind) → k ≡ target.Bare t → l ≡ character_kind (type_of tables t) → l ≡ character_kind (target_in tables k)
+bare_kind tables k t l e is = is ∙ sym (kind_by_bare (type_of tables t)) ∙ sym (ap (λ u. character_kind (target_in tables u)) e)
+
+pub filled_at : (tables : Tables) (cs : List Class) (f : Fact) (t : Target) (n : Name) (o : ℕ) (bytes : List ℕ) (k : Kind) (w u : List Statement)
+    → f ≡ fact.Place o → k ≡ character_kind (target_in tables t) → u ≡ w ++ put_bytes k (at_byte n o) 0 bytes → u ≡ w ++ stored_bytes cs (fact_in tables f t n) bytes
+filled_at tables cs f t n o bytes k w u is same made =
+    made ∙ ap (λ k. w ++ put_bytes k (at_byte n o) 0 bytes) same ∙ sym (ap (λ g. w ++ stored_bytes cs (fact_in tables g t n) bytes) is)

@@ -4,6 +4,7 @@ ghost use Rattle.std.specs.Prelude.{◌≡◌, ◌++◌, IfOk, OnOk};
 ghost use Rattle.std.specs.Option.{option_map};
 ghost use Rattle.cc_whole.specs.Plain as plain;
 ghost use Rattle.cc_whole.specs.Plain.{expression_of};
+ghost use Rattle.cf_core.specs.Objects as meaning;
 ghost use Rattle.cf_lower.specs.Constants as definition;
 ghost use Rattle.cf_lower.specs.Statements as spec;
 ghost use Rattle.cf_lower_layout.specs.Sorts as sorts;
@@ -13,7 +14,6 @@ ghost use Rattle.cf_lower_names.specs.Cells.{sort_for};
 ghost use Rattle.cf_lower_constants.specs.Knowing.{fact_in, target_in};
 ghost use Rattle.cf_lower_constants.specs.Sites.{action_at, told, told_all};
 ghost use Rattle.cf_lower_constants.specs.Stored.{put_if};
-ghost use Rattle.cf_lower_constants.specs.declared.known.Target.{Target as TargetOf};
 
 use crate::known::{Fact, Known, Target};
 use crate::registers::Knowns;
@@ -23,7 +23,7 @@ use cf_base::{Arith, Boxed, Items, Kind, Memory, Name};
 use cf_lower_expr::{cell_in, constant_of};
 use cf_lower_names::{Cell, address_of, binary, load_named, zero};
 use cf_lower_stmt::{behind, character, put};
-use cf_lower_types::{Scalar, Tables, sort_of};
+use cf_lower_types::{Scalar, Tables, character_kind, sort_of};
 use cf_plain::Action;
 
 /// The place so many bytes behind the start of an object, the number as an int has it.
@@ -146,41 +146,55 @@ fn store(
     store_at(x, code, &place.fact, &place.target, &place.name, value)
 }
 
-/// Bytes are stored from a place on.
+/// Bytes are stored from a place on, as characters of this kind.
 #[tactic(auto, using(cf_lower_stmt::proofs::Lists::bytes_more))]
 fn put_bytes(
     x: &Site<'_>,
     code: &mut Items<CStatement>,
+    kind: Kind,
     name: &Name,
     at: u64,
     bytes: &[u8],
 ) -> Result<(), Memory>
-    ensures { OnOk result (written code.new ≡ written code.old ++ spec.put_bytes (definition.at_byte name.now at) 0 bytes.now) }
+    ensures { OnOk result (written code.new ≡ written code.old ++ spec.put_bytes kind (definition.at_byte name.now at) 0 bytes.now) }
 {
     let mut index = 0;
     for byte in bytes {
         let start = place_at(x, name, at)?;
         let there = behind(x.alloc, start, index)?;
-        let held = character(x.alloc, *byte)?;
-        put(x.alloc, code, Cell::Number(Kind::Char), there, held)?;
+        let held = character(x.alloc, kind, *byte)?;
+        put(x.alloc, code, Cell::Number(kind), there, held)?;
         index = index.checked_add(1).ok_or(Memory)?;
     }
     Ok(())
 }
 
-/// Bytes are stored in the object of this name where a place in it is known.
+/// The kind of the characters that an array of this type holds.
+fn target_kind(tables: &Tables<'_>, target: &Target) -> Kind
+    ensures { result ≡ meaning.character_kind (target_in tables.now target.now) }
+{
+    match target {
+        Target::Exactly(id) => character_kind(tables, *id),
+        Target::Bare(id) => character_kind(tables, *id),
+        Target::Void | Target::Character | Target::Characters(_) => Kind::Char,
+    }
+}
+
+/// Bytes are stored in the object of this name and type where a place in it is known.
 fn store_bytes(
     x: &Site<'_>,
     code: &mut Items<CStatement>,
     fact: &Fact,
+    target: &Target,
     name: &Name,
     bytes: &[u8],
 ) -> Result<(), Memory>
-    ensures { (target : TargetOf) → OnOk result (written code.new ≡ written code.old ++ definition.stored_bytes (classes_of x.now.tables.now) (fact_in x.now.tables.now fact.now target name.now) bytes.now) }
+    ensures { OnOk result (written code.new ≡ written code.old ++ definition.stored_bytes (classes_of x.now.tables.now) (fact_in x.now.tables.now fact.now target.now name.now) bytes.now) }
 {
     match fact {
         Fact::Place(at) => {
-            put_bytes(x, code, name, *at, bytes)?;
+            let kind = target_kind(x.tables, target);
+            put_bytes(x, code, kind, name, *at, bytes)?;
             Ok(())
         }
         Fact::Nothing | Fact::Number(_) | Fact::Null | Fact::Function => Ok(()),
@@ -205,7 +219,7 @@ pub(crate) fn done(
         }
         Action::Characters { place, bytes } => {
             let at = known.get(x.alloc, *place)?;
-            store_bytes(x, code, &at.fact, &at.name, bytes.as_slice())?;
+            store_bytes(x, code, &at.fact, &at.target, &at.name, bytes.as_slice())?;
             Ok(())
         }
         _ => Ok(()),

@@ -1,3 +1,4 @@
+pub mod Characters
 pub mod Elements
 pub mod Laid
 pub mod Order

@@ -1,7 +1,7 @@
 -- Which statements that are no control are lowered, but for calls, by what registers hold before them.
 use Rattle.std.specs.Prelude.{ℕ, ◌^◌, nat_le, nat_lt, Bool, true, false, ◌&&◌, ◌||◌, not, List, Option, Some, None, is_some, length}
 use Rattle.cf_base.specs.declared.kind.Kind.{Kind}
-use Rattle.cf_base.specs.declared.kind.Kind.TheVariants.{Char, Int, UInt, Long, ULong}
+use Rattle.cf_base.specs.declared.kind.Kind.TheVariants.{Char, SChar, UChar, Int, UInt, Long, ULong}
 use Rattle.cf_base.specs.Integers.{fits as is_of}
 use Rattle.cf_core.specs.declared.operators.PointerOperator.{PointerOperator}
 use Rattle.cf_core.specs.declared.operators.PointerOperator.TheVariants as pointer
@@ -93,13 +93,15 @@ abbrev pub may_store : Kept → Kept → Bool
 may_store (holds (address t)) x = may_hold (sort_of t) x
 may_store y x = false
 
--- an object that is filled by zeros, and a char array by the bytes of a literal
+-- an object that is filled by zeros, and an array of characters by the bytes of a literal
 abbrev pub may_zero : Kept → Bool
 may_zero (holds (address t)) = not (is_void t)
 may_zero x = false
 
 abbrev pub are_chars : Kept → Bool
 are_chars (holds (address (array (integer Char) n))) = true
+are_chars (holds (address (array (integer SChar) n))) = true
+are_chars (holds (address (array (integer UChar) n))) = true
 are_chars x = false
 
 -- ---- types and names

@@ -14,7 +14,7 @@ use Rattle.cf_core.specs.Calls.{Program}
 use Rattle.cf_core.specs.declared.operators.PointerOperator.TheVariants as pointer_operator
 use Rattle.cf_core.specs.Types.{void}
 use Rattle.cf_core.specs.Places.{Place, place_eq}
-use Rattle.cf_core.specs.Pointers.{element_of, truth_value, both_stand, same_array, difference_of, ordered, comparable, equal_values}
+use Rattle.cf_core.specs.Pointers.{element_of, truth_value, both_stand, both_there, same_array, difference_of, ordered, comparable, equal_values}
 use Rattle.cf_core.specs.Size.{size}
 use Rattle.cf_core.specs.Store.{is_dead}
 use Rattle.cf_core.specs.Run.{State, ◌>>=◌, ◌>>◌, gives, need}
@@ -100,6 +100,16 @@ module _ (P : Program) (function : Name → ℕ) (signature : Name → SourceTyp
       record {
         first = at-place P function signature F s m rel w scope t p one hp (not-dead-stands P.classes (s.object p.object) p.route (not-false _ parts.0));
         second = at-place P function signature F s m rel w scope u q two hq (not-dead-stands P.classes (s.object q.object) q.route (not-false _ parts.1));
+      }
+
+  -- and where the storage of both is there
+  both-in : (t u : SourceType) (p q : Place) (one two : Result Value ℕ) → HasValue (K P function signature F) F (holds (address t)) (source.At p) one
+      → HasValue (K P function signature F) F (holds (address u)) (source.At q) two → both_there s p q ≡ true → Both p q one two
+  both-in t u p q one two hp hq h =
+      let parts = both (not (s.object p.object).is_gone) (not (s.object q.object).is_gone) h in
+      record {
+        first = at-place P function signature F s m rel w scope t p one hp (not-false _ parts.0);
+        second = at-place P function signature F s m rel w scope u q two hq (not-false _ parts.1);
       }
 
   -- the offsets of two elements of one array
@@ -227,10 +237,10 @@ module _ (P : Program) (function : Name → ℕ) (signature : Name → SourceTyp
       abbrev difference : Result Value ℕ
       difference = value_of (binary op.Divide (binary op.Subtract (in_register (address t) r) (in_register (address u) q)) (constant (int_constant (size P.classes t)))) scope m
 
-      apart : (p q' : Place) → Left (source.At p) → Right (source.At q') → both_stand P.classes s p q' ≡ true → same_array p q' ≡ true
+      apart : (p q' : Place) → Left (source.At p) → Right (source.At q') → both_there s p q' ≡ true → same_array p q' ≡ true
           → GivenAs (K P function signature F) F (of_kind Int) (source.Number (pos (element_of p.route).index -ℤ pos (element_of q'.route).index)) difference
-      apart p q' hp hq stand same =
-          let at = both-there t u p q' _ _ hp hq stand in
+      apart p q' hp hq there same =
+          let at = both-in t u p q' _ _ hp hq there in
           let e = elements (K P function signature F) F s m rel p q' (standing p _ at.first) (standing q' _ at.second) same in
           let n = size P.classes (type_of_place (K P function signature F) F p) in
           let d = differences e.start (element_of p.route).index (element_of q'.route).index n e.some e.first_fits e.second_fits in
@@ -250,12 +260,12 @@ module _ (P : Program) (function : Name → ℕ) (signature : Name → SourceTyp
       pub difference-step : Step (K P function signature F) F (acts again P g (plain.pointer_operate pointer_operator.Difference r q) s w) s w (of_kind Int) difference
       difference-step =
           two-step P function signature F s m w scope kept g regs (of_kind Int) difference r q (holds (address t)) (holds (address u)) (address t) (address u)
-          (difference_of P.classes) kr refl kq refl of-values
+          difference_of kr refl kq refl of-values
         where
-          of-values : (v x : source.Value) → Left v → Right x → Step (K P function signature F) F (difference_of P.classes v x s w) s w (of_kind Int) difference
+          of-values : (v x : source.Value) → Left v → Right x → Step (K P function signature F) F (difference_of v x s w) s w (of_kind Int) difference
           of-values (source.At p) (source.At q') hp hq =
-              step-need P function signature F s w (of_kind Int) difference (both_stand P.classes s p q') 5 _ (λ stand.
-              step-need P function signature F s w (of_kind Int) difference (same_array p q') 6 _ (λ same. record { by = (refl, refl, apart p q' hp hq stand same) }))
+              step-need P function signature F s w (of_kind Int) difference (both_there s p q') 5 _ (λ there.
+              step-need P function signature F s w (of_kind Int) difference (same_array p q') 6 _ (λ same. record { by = (refl, refl, apart p q' hp hq there same) }))
           of-values (source.At p) source.Null hp hq = record { by = refl }
           of-values source.Null source.Null hp hq = record { by = refl }
           of-values source.Null (source.At q') hp hq = record { by = refl }

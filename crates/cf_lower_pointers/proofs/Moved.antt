@@ -147,8 +147,8 @@ module _ (P : Program) (function : Name → ℕ) (signature : Name → SourceTyp
         → found ≡ Ok (value.Address (pointer_to (K P function signature F) F (record p { route = route_of (element_of p.route) i }))))
         → Step (K P function signature F) F (moved_place P.classes p y s w) s w (holds (address t)) found
     moved-step y same found arrives =
-        step-need P function signature F s w (holds (address t)) found (not (is_dead P.classes (s.object p.object) p.route)) 5 _ (λ alive.
-        by_number (at-place t p (value_of ep scope m) hp (not-dead-stands P.classes (s.object p.object) p.route (not-false _ alive)))
+        step-need P function signature F s w (holds (address t)) found (not (s.object p.object).is_gone) 5 _ (λ alive.
+        by_number (at-place t p (value_of ep scope m) hp (not-false _ alive))
         (further (element_of p.route).index y) refl)
       where
         by_number : AtPlace P function signature F p (value_of ep scope m) → (o : Option ℕ) → further (element_of p.route).index y ≡ o

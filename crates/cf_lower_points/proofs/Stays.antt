@@ -2,7 +2,7 @@
 use Rattle.std.proofs.Common.{◌≡◌, ℕ, suc, ◌<◌, ◌≤◌, nat_le, Bool, true, false, ◌==◌, not, ◌&&◌, if◌then◌else◌, List, [], ◌∷◌, ◌++◌, refl, sym, ◌∙◌, ap, subst, arith}
 use Rattle.std.specs.Prelude.{pos, Some, find, length, bytes_eq}
 use Rattle.std.proofs.lemmas.Bool.Decides.{nat_tests}
-use Rattle.cf_base.specs.declared.kind.Kind.TheVariants.{Char}
+use Rattle.cf_base.specs.declared.kind.Kind.{Kind}
 use Rattle.cf_base.specs.Integers.{convert as converted}
 use Rattle.cf_core.specs.Types.{is_array}
 use Rattle.cf_core.specs.Classes.{Class}
@@ -14,7 +14,7 @@ use Rattle.cf_core.specs.Access.{place_type, used, names_scalar, use_place, firs
 use Rattle.cf_core.specs.Pointers.{truth_value, pointer_op, from_void_value}
 use Rattle.cf_core.specs.Scalars.{truth_of, converted_value, operated, signed, changed_value, indexed, decayed, pointed_to}
 use Rattle.cf_core.specs.Calls.{Program, root, name_function}
-use Rattle.cf_core.specs.Objects.{local_place, static_place, same_type, literal_of, found_literal, literal_object, settle, write_bytes, element_count}
+use Rattle.cf_core.specs.Objects.{local_place, static_place, same_type, literal_of, found_literal, literal_object, settle, character_kind, write_bytes, element_count}
 use Rattle.cf_plain.specs.Plain as plain
 use Rattle.cf_plain.specs.Plain.{Register, Action}
 use Rattle.cf_plain.specs.Acts.{Registers, held, used_in, place_in, doing, acts}
@@ -84,10 +84,10 @@ module _ (e : State) where
       (hold_all p.route (λ r. Some (zero_of (type_at classes (s.object p.object).type (r ++ p.route))))) (λ x. refl) (λ x. refl)
       (hold_all-has p.route (λ r. zero_of (type_at classes (s.object p.object).type (r ++ p.route)))))
 
-  keeps-bytes : (p : Place) (i : ℕ) (b : List ℕ) → Keeps Q (write_bytes p i b)
-  keeps-bytes p i [] = keeps-gives Q tt
-  keeps-bytes p i (b ∷ rest) =
-      keeps-next Q (first_value (inner (item i) p) (Number (converted Char (pos b)))) (write_bytes p (suc i) rest) (keeps-first_value _ _) (keeps-bytes p (suc i) rest)
+  keeps-bytes : (k : Kind) (p : Place) (i : ℕ) (b : List ℕ) → Keeps Q (write_bytes k p i b)
+  keeps-bytes k p i [] = keeps-gives Q tt
+  keeps-bytes k p i (b ∷ rest) =
+      keeps-next Q (first_value (inner (item i) p) (Number (converted k (pos b)))) (write_bytes k p (suc i) rest) (keeps-first_value _ _) (keeps-bytes k p (suc i) rest)
 
   keeps-first : (classes : List Class) (p : Place) (v : Value) → Keeps Q (state >>= (λ s. when (is_scalar (place_type classes s p)) (used v >>= first_value p) malformed))
   keeps-first classes p v =
@@ -173,5 +173,5 @@ module _ (e : State) where
         keeps-then Q (place_in g r) _ (keeps-place_in Q g r) (λ p. keeps-at Q _ (λ s.
         keeps-next Q (valid (is_array (place_type P.classes s p))) _ (keeps-valid Q _)
         (keeps-next Q (valid (nat_le (length b) (element_count P.classes (place_type P.classes s p)))) _ (keeps-valid Q _)
-        (keeps-next Q (fill_zeros P.classes p) (doing (write_bytes p 0 b)) (keeps-zeros P.classes p) (keeps-doing (write_bytes p 0 b) (keeps-bytes p 0 b))))))
+        (keeps-next Q (fill_zeros P.classes p) (doing (write_bytes (character_kind (place_type P.classes s p)) p 0 b)) (keeps-zeros P.classes p) (keeps-doing (write_bytes (character_kind (place_type P.classes s p)) p 0 b) (keeps-bytes (character_kind (place_type P.classes s p)) p 0 b))))))
     quiet-stays a h = absurd (let k = h in cc)

@@ -2,7 +2,7 @@
 -- set before.
 use Rattle.std.specs.Prelude.{ℕ, ◌+◌, ◌-◌, nat_eq, nat_lt, nat_le, Bool, true, false, ◌&&◌, ◌||◌, not, if◌then◌else◌, List, [], ◌∷◌, ℤ, pos, negsuc, neg_ℤ, Option, Some, None, bytes_eq}
 use Rattle.std.specs.List.{list_all}
-use Rattle.cf_base.specs.declared.kind.Kind.TheVariants.{Char}
+use Rattle.cf_base.specs.declared.kind.Kind.TheVariants.{Char, SChar, UChar}
 use Rattle.cf_base.specs.Integers.{fits}
 use Rattle.cf_core.specs.declared.operators.PointerOperator.{PointerOperator}
 use Rattle.cf_core.specs.declared.operators.PointerOperator.TheVariants as pointer_operator
@@ -170,9 +170,11 @@ abbrev pub is_clear : Name → Known → List Part → Bool
 is_clear name (at n o t) ps = bytes_eq n name && not (is_void t) && clear_of o (size [] t) ps
 is_clear name x ps = false
 
--- an array of plain char
+-- an array of characters
 abbrev pub is_text_type : SourceType → Bool
 is_text_type (array (integer Char) n) = true
+is_text_type (array (integer SChar) n) = true
+is_text_type (array (integer UChar) n) = true
 is_text_type t = false
 
 abbrev pub takes_bytes : Known → Bool

@@ -4,7 +4,8 @@ use Rattle.std.specs.Prelude.{bytes_eq}
 use Rattle.std.proofs.lemmas.Bool.{true≢false}
 use Rattle.std.proofs.lemmas.Bool.Decides.{nat_tests}
 use Rattle.cf_base.proofs.Tests.{both, same_bytes}
-use Rattle.cf_base.specs.declared.kind.Kind.TheVariants.{Char}
+use Rattle.cf_base.specs.declared.kind.Kind.{Kind}
+use Rattle.cf_base.specs.declared.kind.Kind.TheVariants.{Char, SChar, UChar}
 use Rattle.cf_base.specs.Event.{Undefined}
 use Rattle.cf_base.specs.World.{World, Ran, Went, Stops, and_then}
 use Rattle.cf_core.specs.Types.{Name, SourceType, void, integer, enumeration, class, pointer, reference, array, takes, gives as gives_type, data_member, function_member, const, is_array, is_void, without_const}
@@ -16,9 +17,10 @@ use Rattle.cf_core.specs.Run.{State, Did, Malformed, Act, onward, ◌>>=◌, ◌
 use Rattle.cf_core.specs.Access.{used, first_value, place_type, fill_zeros}
 use Rattle.cf_core.specs.Calls as core
 use Rattle.cf_core.specs.Calls.{Program, root, has_destructor}
-use Rattle.cf_core.specs.Objects.{static_number, static_type, settle, element_count, write_bytes}
+use Rattle.cf_core.specs.Objects.{static_number, static_type, settle, element_count, character_kind, write_bytes}
 use Rattle.cf_lower_layout.specs.Layout.{offset}
 use Rattle.cf_lower_layout.specs.Sorts.{Sort, number, address, code, sort_of}
+use Rattle.cf_lower_layout.proofs.Characters.{kind_by_bare}
 use Rattle.cf_plain.specs.Plain as plain
 use Rattle.cf_plain.specs.Plain.{Register, Action}
 use Rattle.cf_plain.specs.Acts.{Registers, held, doing, acts}
@@ -27,11 +29,13 @@ use Rattle.cc_whole.specs.Plain.{Statement}
 use Rattle.cc_whole_closed.proofs.Plains.{expression_with}
 use Rattle.cc_whole_mean.specs.declared.named.Named.TheVariants as meant
 use Rattle.cc_whole_mean.specs.declared.named.Shape.{Shape}
+use Rattle.cc_whole_memory.specs.Values.{bytes_of}
 use Rattle.cc_whole_mean.specs.Flow as c
 use Rattle.cc_whole_mean.specs.Mean as mean
 use Rattle.cc_whole_mean.specs.Scope.{Scope}
 use Rattle.cf_lower_relate.specs.Map.{Fixed, Map, type_of_place}
 use Rattle.cf_lower_relate.specs.Relation.{Rel}
+use Rattle.cf_lower_relate.specs.Scalars.{c_scalar}
 use Rattle.cf_lower_relate.proofs.Objects.{upd-other}
 use Rattle.cf_lower.specs.Constants.{Known, unknown, a_number, null, at, a_function, at_byte, written, stored, stored_bytes, constant_done}
 use Rattle.cf_lower.specs.Statements.{put, put_bytes}
@@ -107,7 +111,7 @@ module _ (P : Program) (function : Name → ℕ) (signature : Name → SourceTyp
     reach-done : (n : Name) → G [] told.parts (acts again P regs (plain.reach n) s w)
     reach-done n = go (static_number P n)
       where
-        go : (x : Option ℕ) → G [] told.parts (((some_or x malformed >>= (λ o. gives (root o))) >> doing (changed (λ s. record s { reached = n ∷ s.reached }))) s w)
+        go : (x : Option ℕ) → G [] told.parts (((some_or x malformed >>= (λ o. gives (root o))) >>= (λ p. changed (λ s. record s { reached = n ∷ s.reached }) >> gives (source.At p))) s w)
         go None = wrong [] told.parts
         go (Some o) = record {
           by = (
@@ -129,10 +133,10 @@ module _ (P : Program) (function : Name → ℕ) (signature : Name → SourceTyp
         go : (x : Option ℕ)
             → G [] told.parts
             (((some_or x malformed >>= (λ o. gives (root o)))
-            >>= (λ p. doing (when (has_destructor P.classes (static_type P n)) (changed (λ s. record s { finished = p.object ∷ s.finished })) done))) s w)
+            >>= (λ p. when (has_destructor P.classes (static_type P n)) (changed (λ s. record s { finished = p.object ∷ s.finished })) done >> gives (source.At p))) s w)
         go None = wrong [] told.parts
         go (Some o) =
-            subst (λ b. G [] told.parts (doing (when b (changed (λ s. record s { finished = o ∷ s.finished })) done) s w)) (sym destructor) (record { by = (refl, nothing-done) })
+            subst (λ b. G [] told.parts ((when b (changed (λ s. record s { finished = o ∷ s.finished })) done >> gives (source.At (root o))) s w)) (sym destructor) (record { by = (refl, nothing-done) })
 
     truth-done : (i : Register) → is_known (g i) ≡ true → G [] told.parts (acts again P regs (plain.truth i) s w)
     truth-done i e = by (regs i) refl
@@ -309,21 +313,23 @@ module _ (P : Program) (function : Name → ℕ) (signature : Name → SourceTyp
 
     -- ---- bytes
 
-    text-type : (y : SourceType) → is_text_type y ≡ true → (R : Type 0) → ((n : ℕ) → y ≡ array (integer Char) n → R) → R
-    text-type (array (integer Char) n) e R h = h n refl
+    text-type : (y : SourceType) → is_text_type y ≡ true → (R : Type 0) → ((k : Kind) (n : ℕ) → bytes_of (c_scalar (number k)) ≡ 1 → y ≡ array (integer k) n → R) → R
+    text-type (array (integer Char) n) e R h = h Char n refl refl
+    text-type (array (integer SChar) n) e R h = h SChar n refl refl
+    text-type (array (integer UChar) n) e R h = h UChar n refl refl
     text-type y e R h = absurd (true≢false (sym e))
 
     filled : (i : Register) (b : List ℕ) (x : Known) (f : Fact) → is_own name x f ≡ true → is_clear name x told.parts ≡ true → takes_bytes x ≡ true
         → ((v : source.Value) → regs i ≡ Some v → Is x f v) → G (stored_bytes [] x b) (part_of x ∷ told.parts) (acts again P regs (plain.bytes i b) s w)
     filled i b (at n o t) f mine e fit hx =
-        let xs : List Statement = put_bytes (at_byte n o) 0 b in
+        let xs : List Statement = put_bytes (character_kind t) (at_byte n o) 0 b in
         test-place (G xs parts) s w (wrong xs parts) (ends xs parts) regs i _ (λ p isp.
         let x = hx (source.At p) isp in
         subst (λ p. G xs parts (put-in p)) (sym (at-same x.is))
         (test-valid (G xs parts) s w (wrong xs parts) (ends xs parts) (is_array (place_type P.classes s x.place)) _ (λ array-there.
         test-valid (G xs parts) s w (wrong xs parts) (ends xs parts) (nat_le (length b) (element_count P.classes (place_type P.classes s x.place))) _ (λ room.
         subst (λ ran. G xs parts (and_then ran (λ did w. onward did (λ v. gives source.Nothing) w)))
-        (sym (writes x.place 0 b (with_object x.place.object (zeros_at P.classes x.place.route) s) w)) (record { by = (refl, all-set (source.At p) x room) })))))
+        (sym (writes (character_kind (place_type P.classes s x.place)) x.place 0 b (with_object x.place.object (zeros_at P.classes x.place.route) s) w)) (record { by = (refl, all-set (source.At p) x room) })))))
       where
         parts : List Part
         parts = part_of (at n o t) ∷ told.parts
@@ -331,7 +337,7 @@ module _ (P : Program) (function : Name → ℕ) (signature : Name → SourceTyp
         put-in : Place → Ran (Did source.Value)
         put-in p =
             (valid (is_array (place_type P.classes s p)) >> (valid (nat_le (length b) (element_count P.classes (place_type P.classes s p)))
-            >> (fill_zeros P.classes p >> doing (write_bytes p 0 b)))) s w
+            >> (fill_zeros P.classes p >> doing (write_bytes (character_kind (place_type P.classes s p)) p 0 b)))) s w
 
         two : (bytes_eq n name && not (is_void t) ≡ true) × (clear_of o (size [] t) told.parts ≡ true)
         two = both (bytes_eq n name && not (is_void t)) (clear_of o (size [] t) told.parts) e
@@ -347,30 +353,38 @@ module _ (P : Program) (function : Name → ℕ) (signature : Name → SourceTyp
 
         all-set : (pv : source.Value) (x : IsAt P function signature F names q r n o t (left_of f) pv)
             → nat_le (length b) (element_count P.classes (place_type P.classes s x.place)) ≡ true
-            → ActDone (with_names r (put_bytes (at_byte n o) 0 b)) parts s u (with_bytes x.place 0 b (with_object x.place.object (zeros_at P.classes x.place.route) s))
+            → ActDone (with_names r (put_bytes (character_kind t) (at_byte n o) 0 b)) parts s u (with_bytes (character_kind (place_type P.classes s x.place)) x.place 0 b (with_object x.place.object (zeros_at P.classes x.place.route) s))
         all-set pv x room =
             text-type (without_const t) fit
-            (ActDone (with_names r (put_bytes (at_byte n o) 0 b)) parts s u (with_bytes x.place 0 b (with_object x.place.object (zeros_at P.classes x.place.route) s)))
-            (λ len is.
-            let z : State = with_object x.place.object (zeros_at P.classes x.place.route) s in
+            (ActDone (with_names r (put_bytes (character_kind t) (at_byte n o) 0 b)) parts s u (with_bytes (character_kind (place_type P.classes s x.place)) x.place 0 b (with_object x.place.object (zeros_at P.classes x.place.route) s)))
+            (λ kind len byte is.
+            let z : State = (with_object x.place.object (zeros_at P.classes x.place.route) s) in
             let first = zeroed n o t (left_of f) pv x one.0 some two.1 in
             let known-type = type-at P N.none function signature F names q r n o t (left_of f) pv x some in
             let text = known-type ∙ is in
+            let c_has : character_kind t ≡ kind = sym (kind_by_bare t) ∙ ap character_kind is in
+            let has : character_kind (place_type P.classes s x.place) ≡ kind =
+            ap (λ a. character_kind (type_at P.classes a x.place.route)) (rel.type x.place.object x.known)
+            ∙ sym (kind_by_bare (type_of_place Kx F x.place)) ∙ ap character_kind text in
             let count : element_count P.classes (place_type P.classes s x.place) ≡ len =
             ap (λ a. element_count P.classes (type_at P.classes a x.place.route)) (rel.type x.place.object x.known)
-            ∙ count-here P.classes (type_of_place Kx F x.place) (integer Char) len text in
+            ∙ count-here P.classes (type_of_place Kx F x.place) (integer kind) len text in
             let room-left : 0 + length b ≤ len = grind (arith, nat_tests, room, count) in
             let lead = left-leads P.classes (F.type x.place.object) x.place.route (left_of f) x.points x.left some-left in
             let same = own-place n o t (left_of f) pv x one.0 in
-            let more = bytes-done P N.none function signature F names q r c_again helps program inside depth n o t (left_of f) pv x lead len text (rel.laid x.place.object x.known)
-            b 0 room-left (bytes-at P N.none function signature F names q r n o t (left_of f) pv x some) told.parts z first.done.after first.done.since.rel
+            let more = bytes-done P N.none function signature F names q r c_again helps program inside depth n o t (left_of f) pv x lead kind byte len text
+            (rel.laid x.place.object x.known) b 0 room-left (bytes-at P N.none function signature F names q r n o t (left_of f) pv x some) told.parts z first.done.after
+            first.done.since.rel
             (clear-more (F.type x.place.object) (part_of (at n o t)) told.parts x.place.object z
             (subst (λ a. Clear (F.type a) told.parts a z) (sym same) first.clear)) in
-            record {
-              done = done-then Kx F names r c_again helps program inside depth [] (with_names r (put_bytes (at_byte n o) 0 b)) s u z (with_bytes x.place 0 b z) first.done more.done;
-              clear = clear-back n o t (left_of f) pv x one.0 some parts (with_bytes x.place 0 b z) more.clear;
-              kept = λ a n. bytes-kept x.place 0 b z a (different a x.place.object (λ e. n (e ∙ same))) ∙ first.kept a n;
-            })
+            subst (λ c. ActDone (with_names r (put_bytes c (at_byte n o) 0 b)) parts s u (with_bytes (character_kind (place_type P.classes s x.place)) x.place 0 b z)) (sym c_has)
+            (subst (λ k. ActDone (with_names r (put_bytes kind (at_byte n o) 0 b)) parts s u (with_bytes k x.place 0 b z)) (sym has)
+            (record {
+              done = done-then Kx F names r c_again helps program inside depth [] (with_names r (put_bytes kind (at_byte n o) 0 b)) s u z (with_bytes kind x.place 0 b z)
+                  first.done more.done;
+              clear = clear-back n o t (left_of f) pv x one.0 some parts (with_bytes kind x.place 0 b z) more.clear;
+              kept = λ a n. bytes-kept kind x.place 0 b z a (different a x.place.object (λ e. n (e ∙ same))) ∙ first.kept a n;
+            })))
     filled i b x f mine e fit hx = absurd (true≢false (sym mine))
 
     -- ---- all

@@ -1,9 +1,10 @@
--- A static array of char gets the bytes of a literal in both.
+-- A static array of characters gets the bytes of a literal in both.
 use Rattle.std.proofs.Common.{◌≡◌, ℕ, suc, ◌+◌, ◌*◌, ◌≤◌, ◌<◌, nat_le, Bool, true, false, not, ◌==◌, cond, List, [], ◌∷◌, length, pos, Some, Ok, Err, refl, ap, subst, ◌∙◌, arith}
 use Rattle.std.specs.Prelude.{◌+ℤ◌}
 use Rattle.std.proofs.lemmas.Bool.Decides.{nat_tests}
 use Rattle.cf_base.proofs.Tests.{both, all_of}
-use Rattle.cf_base.specs.declared.kind.Kind.TheVariants.{Char, Int}
+use Rattle.cf_base.specs.declared.kind.Kind.{Kind}
+use Rattle.cf_base.specs.declared.kind.Kind.TheVariants.{Int}
 use Rattle.cf_base.specs.declared.arith.Arith.TheVariants as op
 use Rattle.cf_base.specs.Integers.{convert}
 use Rattle.cf_base.specs.World.{World, Went}
@@ -21,10 +22,10 @@ use Rattle.cf_lower_layout.specs.Layout.{has_item, offset, leads, LaidOut, const
 use Rattle.cf_lower_layout.specs.Sorts.{number, scalar_sort, sort_of}
 use Rattle.cf_lower_layout.proofs.Laid.{laid-part, element-without}
 use Rattle.cf_lower_layout.proofs.Parts.{step-inside, route-inside}
-use Rattle.cc_whole.specs.declared.types.CConstant.TheVariants as constants
-use Rattle.cc_whole.specs.Plain.{Expression, Statement, constant}
+use Rattle.cc_whole.specs.Plain.{Expression, Statement}
 use Rattle.cc_whole_memory.specs.declared.value.Pointer.TheVariants as pointer
 use Rattle.cc_whole_memory.specs.declared.value.Value.TheVariants as value
+use Rattle.cc_whole_memory.specs.Values.{bytes_of}
 use Rattle.cc_whole_memory.specs.Blocks.{Memory, outside, on_ok}
 use Rattle.cc_whole_memory.specs.Pointers.{moved_in}
 use Rattle.cc_whole_mean.specs.Flow as c
@@ -32,12 +33,13 @@ use Rattle.cc_whole_mean.specs.Mean as mean
 use Rattle.cc_whole_mean.specs.Scope.{Scope}
 use Rattle.cc_whole_mean.specs.Values.{value_of, applied, address_value}
 use Rattle.cf_lower.specs.Constants.{at_byte}
+use Rattle.cf_lower.specs.Expressions.{constant_of}
 use Rattle.cf_lower.specs.Statements.{put, behind, put_bytes}
 use Rattle.cf_lower_relate.specs.Map.{Fixed, Map, offset_of, pointer_to, type_of_place}
 use Rattle.cf_lower_relate.specs.Relation.{Rel}
 use Rattle.cf_lower_relate.proofs.Objects.{upd-other}
+use Rattle.cf_lower_relate.specs.Scalars.{c_scalar}
 use Rattle.cf_lower_relate.proofs.Sorts.{sort-bytes}
-use Rattle.cf_lower_relate.proofs.Words.{convert-same}
 use Rattle.cf_lower_steps.specs.Lowering.{fixed_of}
 use Rattle.cf_lower_steps.proofs.Results.{convert-fits}
 use Rattle.cf_lower_program.specs.Alike.{Part}
@@ -45,7 +47,7 @@ use Rattle.cf_lower_settings.specs.Set.{Clear}
 use Rattle.cf_lower_settings.proofs.Clear.{clear-stored}
 use Rattle.cf_lower_settings.proofs.Done.{with_names, DoneBy, done-none, done-then, done-store, since-none}
 use Rattle.cf_lower_settings.proofs.Known.{IsAt}
-use Rattle.cf_lower_settings.proofs.Stores.{live-at, pointer-at, Valued, put-there}
+use Rattle.cf_lower_settings.proofs.Stores.{live-at, pointer-at, Valued, number-valued, put-there}
 
 -- ---- arrays, otherwise than in const
 
@@ -74,27 +76,28 @@ count-here cs y a len e = absurd (cc)
 -- ---- the source
 
 -- the state behind bytes from a number on
-abbrev pub with_bytes : Place → ℕ → List ℕ → State → State
-with_bytes p i [] s = s
-with_bytes p i (b ∷ rest) s = with_bytes p (suc i) rest (with_object p.object (hold (item i ∷ p.route) (Some (source.Number (convert Char (pos b))))) s)
+abbrev pub with_bytes : Kind → Place → ℕ → List ℕ → State → State
+with_bytes k p i [] s = s
+with_bytes k p i (b ∷ rest) s = with_bytes k p (suc i) rest (with_object p.object (hold (item i ∷ p.route) (Some (source.Number (convert k (pos b))))) s)
 
-pub writes : (p : Place) (i : ℕ) (bytes : List ℕ) (s : State) (w : World) → write_bytes p i bytes s w ≡ Went (Gives tt (with_bytes p i bytes s)) w
-writes p i [] s w = refl
-writes p i (b ∷ rest) s w = writes p (suc i) rest (with_object p.object (hold (item i ∷ p.route) (Some (source.Number (convert Char (pos b))))) s) w
+pub writes : (k : Kind) (p : Place) (i : ℕ) (bytes : List ℕ) (s : State) (w : World) → write_bytes k p i bytes s w ≡ Went (Gives tt (with_bytes k p i bytes s)) w
+writes k p i [] s w = refl
+writes k p i (b ∷ rest) s w = writes k p (suc i) rest (with_object p.object (hold (item i ∷ p.route) (Some (source.Number (convert k (pos b))))) s) w
 
 -- no other object is changed
-pub bytes-kept : (p : Place) (i : ℕ) (bytes : List ℕ) (s : State) (o : ℕ) → o == p.object ≡ false → (with_bytes p i bytes s).object o ≡ s.object o
-bytes-kept p i [] s o other = refl
-bytes-kept p i (b ∷ rest) s o other =
-    bytes-kept p (suc i) rest (with_object p.object (hold (item i ∷ p.route) (Some (source.Number (convert Char (pos b))))) s) o other
-    ∙ upd-other p.object o (hold (item i ∷ p.route) (Some (source.Number (convert Char (pos b)))) (s.object p.object)) s.object other
+pub bytes-kept : (k : Kind) (p : Place) (i : ℕ) (bytes : List ℕ) (s : State) (o : ℕ) → o == p.object ≡ false → (with_bytes k p i bytes s).object o ≡ s.object o
+bytes-kept k p i [] s o other = refl
+bytes-kept k p i (b ∷ rest) s o other =
+    bytes-kept k p (suc i) rest (with_object p.object (hold (item i ∷ p.route) (Some (source.Number (convert k (pos b))))) s) o other
+    ∙ upd-other p.object o (hold (item i ∷ p.route) (Some (source.Number (convert k (pos b)))) (s.object p.object)) s.object other
 
 -- ---- in both
 
 module _ (P : Program) (none : P.classes ≡ []) (function : Name → ℕ) (signature : Name → SourceType) (F : Map) (names : Scope) (q r : Name → Name)
     (c_again helps : mean.Again) (program : mean.Program) (inside : Bool) (depth : ℕ) (n : Name) (o : ℕ) (t : SourceType) (k : ℕ) (v : source.Value)
-    (x : IsAt P function signature F names q r n o t k v) (lead : leads P.classes (F.type x.place.object) x.place.route ≡ true) (len : ℕ)
-    (is-array : without_const (type_of_place (fixed_of P function signature) F x.place) ≡ array (integer Char) len) (laid : LaidOut P.classes (F.type x.place.object)) where
+    (x : IsAt P function signature F names q r n o t k v) (lead : leads P.classes (F.type x.place.object) x.place.route ≡ true)
+    (kind : Kind) (byte : bytes_of (c_scalar (number kind)) ≡ 1) (len : ℕ)
+    (is-array : without_const (type_of_place (fixed_of P function signature) F x.place) ≡ array (integer kind) len) (laid : LaidOut P.classes (F.type x.place.object)) where
   abbrev Kx : Fixed
   Kx = fixed_of P function signature
 
@@ -115,13 +118,13 @@ module _ (P : Program) (none : P.classes ≡ []) (function : Name → ℕ) (sign
     e = inner (item i) x.place
 
     element-leads : leads P.classes T (item i ∷ x.place.route) ≡ true
-    element-leads = all_of (leads P.classes T x.place.route) (has_item (plain_type part) i) lead (item-there part (integer Char) len i part-laid.once is-array lt)
+    element-leads = all_of (leads P.classes T x.place.route) (has_item (plain_type part) i) lead (item-there part (integer kind) len i part-laid.once is-array lt)
 
-    element-sort : sort_of (element (plain_type part)) ≡ Some (number Char)
+    element-sort : sort_of (element (plain_type part)) ≡ Some (number kind)
     element-sort = ap scalar_sort (element-without part part-laid.once ∙ ap element is-array)
 
     one-byte : size P.classes (element (plain_type part)) ≡ 1
-    one-byte = sort-bytes P.classes (element (plain_type part)) (number Char) element-sort
+    one-byte = sort-bytes P.classes (element (plain_type part)) (number kind) element-sort ∙ byte
 
     element-at : offset_of Kx F x.place + i ≡ offset_of Kx F e
     element-at =
@@ -166,34 +169,29 @@ module _ (P : Program) (none : P.classes ≡ []) (function : Name → ℕ) (sign
     pub clear : Clear T (array_part ∷ ps) x.place.object after
 
   abbrev stores : ℕ → List ℕ → List Statement
-  stores i rest = with_names r (put_bytes (at_byte n o) i rest)
+  stores i rest = with_names r (put_bytes kind (at_byte n o) i rest)
 
   abbrev char : ℕ → Expression
-  char b = constant (constants.Signed (convert Char (pos b)))
+  char b = constant_of (convert kind (pos b))
 
   pub bytes-done : (rest : List ℕ) (i : ℕ) → i + length rest ≤ len → size P.classes part ≡ size [] t → (ps : List Part) (s : State) (u : c.State) → Rel Kx F s u.memory
-      → Clear T (array_part ∷ ps) x.place.object s → BytesDone (stores i rest) ps s u (with_bytes x.place i rest s)
+      → Clear T (array_part ∷ ps) x.place.object s → BytesDone (stores i rest) ps s u (with_bytes kind x.place i rest s)
   bytes-done [] i fit whole ps s u rel clear =
       record { done = done-none Kx F names r c_again helps program inside depth s u s (since-none Kx F s u.memory rel); clear = clear }
   bytes-done (b ∷ rest) i fit whole ps s u rel clear =
-      let z = convert Char (pos b) in
+      let z = convert kind (pos b) in
       let room : i + suc (length rest) ≤ len = fit in
       let lt : i < len = omega (arith, room) in
-      let again = convert-same Char z (convert-fits Char (pos b)) in
-      let value : Valued P none function signature F names q r (number Char) (char b) (source.Number z) u.memory = record {
-        value = value.Number Char z;
-        is = ap (λ v. Ok (value.Number Char v)) again;
-        fits = ap (λ v. Ok (value.Number Char v)) again;
-        same = record { is = refl; fits = convert-fits Char (pos b) };
-      } in
-      let written = put-there P none function signature F names q r (number Char) (behind (at_byte (r n) o) i) (char b) (e i lt) (source.Number z) s u.memory rel x.known
+      let value : Valued P none function signature F names q r (number kind) (char b) (source.Number z) u.memory =
+      number-valued P none function signature F names q r kind z u.memory (convert-fits kind (pos b)) in
+      let written = put-there P none function signature F names q r (number kind) (behind (at_byte (r n) o) i) (char b) (e i lt) (source.Number z) s u.memory rel x.known
       (live-at P none function signature F names q r n o t k v x) (element-leads i lt) (element-sort i lt) (element-pointer i lt s u.memory rel) value in
       let next : State = with_object x.place.object (hold (item i ∷ x.place.route) (Some (source.Number z))) s in
-      let first = done-store Kx F names r c_again helps program inside depth (number Char) (behind (at_byte (r n) o) i) (char b) s next u written.after written.is written.since in
+      let first = done-store Kx F names r c_again helps program inside depth (number kind) (behind (at_byte (r n) o) i) (char b) s next u written.after written.is written.since in
       let more = bytes-done rest (suc i) (let l : suc i + length rest ≤ len = omega (arith, room) in l) whole ps next first.after first.since.rel
       (clear-stored T array_part ps x.place.object (item i ∷ x.place.route) (Some (source.Number z)) s (element-from i lt) (element-to i lt whole) clear) in
       record {
-        done = done-then Kx F names r c_again helps program inside depth (with_names r (put (number Char) (behind (at_byte n o) i) (char b) ∷ []))
-            (stores (suc i) rest) s u next (with_bytes x.place (suc i) rest next) first more.done;
+        done = done-then Kx F names r c_again helps program inside depth (with_names r (put (number kind) (behind (at_byte n o) i) (char b) ∷ []))
+            (stores (suc i) rest) s u next (with_bytes kind x.place (suc i) rest next) first more.done;
         clear = more.clear;
       }

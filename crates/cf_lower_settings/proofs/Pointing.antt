@@ -12,7 +12,6 @@ use Rattle.cf_core.specs.Places.{Place, inner, is_inside, type_at}
 use Rattle.cf_core.specs.Pointers.{element_of, route_of, bound_of, further, up_to, moved_value, moved_back, pointer_op, sum_of, from_void_value}
 use Rattle.cf_core.specs.Size.{size}
 use Rattle.cf_core.specs.Store as source
-use Rattle.cf_core.specs.Store.{is_dead}
 use Rattle.cf_core.specs.Run.{State, Did, Malformed, ◌>>=◌, ◌>>◌, gives, need}
 use Rattle.cf_core.specs.Access.{place_type, used}
 use Rattle.cf_core.specs.Scalars.{as_pointer, indexed, decayed, pointed_to}
@@ -140,7 +139,7 @@ module _ (P : Program) (none : P.classes ≡ []) (function : Name → ℕ) (sign
 
         at-place : Q R (moved_value P.classes (source.At p) z s w)
         at-place =
-            test-need (Q R) s w (wrong R) (ends R) (not (is_dead P.classes (s.object p.object) p.route)) 5 _ (λ alive.
+            test-need (Q R) s w (wrong R) (ends R) (not (s.object p.object).is_gone) 5 _ (λ alive.
             by-number (further (element_of p.route).index z) refl)
 
   pub indexed-known : (x y : Known) (f h : Fact) (v u : source.Value) → moves x y ≡ true → Is x f v → Is y h u

@@ -35,7 +35,6 @@ use Rattle.cc_whole_mean.specs.Types.{scalar_of}
 use Rattle.cc_whole_mean.specs.Values.{value_of, fitted, named_value, named_address, applied, address_value, addressed, assigned, assigned_to, stored}
 use Rattle.cf_lower_relate.specs.Map.{Fixed, Map, Stage, hidden, shown, ended, Is, is_shown, is_ended, is_hidden, pointer_to, type_of_place}
 use Rattle.cf_lower_relate.specs.Relation.{Rel}
-use Rattle.cf_lower_relate.proofs.Bits.{convert-int}
 use Rattle.cf_lower_relate.proofs.Counts.{fits-pos}
 use Rattle.cf_lower_relate.proofs.Memory.{write-place}
 use Rattle.cf_lower_relate.proofs.Words.{convert-same, convert-c}
@@ -44,6 +43,7 @@ use Rattle.cf_lower.specs.Written.{c_type}
 use Rattle.cf_lower.specs.Expressions.{as_stored}
 use Rattle.cf_lower_steps.specs.Lowering.{fixed_of}
 use Rattle.cf_lower_steps.proofs.Registers.{same-register}
+use Rattle.cf_lower_steps.proofs.Stores.{number-stored}
 use Rattle.cf_lower_steps.proofs.Values.{stored-scalar}
 use Rattle.cf_lower_program.specs.Alike.{Fact, of_type, left_of, fits_scalar}
 use Rattle.cf_lower_settings.specs.Set.{Since}
@@ -72,11 +72,6 @@ other-block b c apart = go (b == c) refl
 
 abbrev pub number_in : ℤ → Expression
 number_in z = constant (constants.Signed (convert Int z))
-
-number-fitted : (k : Kind) (z : ℤ) → fits k z ≡ true → fitted (scalar_of (c_type (number k))) (value.Number Int (convert Int z)) ≡ Ok (value.Number (c_kind k) z)
-number-fitted k z f =
-    ap (λ a. fitted a (value.Number Int (convert Int z))) (stored-scalar (number k))
-    ∙ ap (λ y. Ok (value.Number (c_kind k) y)) (convert-c k (convert Int z) ∙ convert-int k z ∙ convert-same k z f)
 
 number-stays : (k : Kind) (z : ℤ) → fits k z ≡ true → fitted (scalar_of (c_type (number k))) (value.Number (c_kind k) z) ≡ Ok (value.Number (c_kind k) z)
 number-stays k z f =
@@ -145,14 +140,13 @@ module _ (P : Program) (none : P.classes ≡ []) (function : Name → ℕ) (sign
     pub fits : fitted (scalar_of (c_type u)) value ≡ Ok value
     pub same : Is K F u v value
 
+  -- a number of a kind, by its bits as an int
+  pub number-valued : (k : Kind) (z : ℤ) (m : Memory) → fits k z ≡ true → Valued (number k) (number_in z) (source.Number z) m
+  number-valued k z m e = record { value = value.Number (c_kind k) z; is = number-stored k z e; fits = number-stays k z e; same = record { is = refl; fits = e } }
+
   pub valued : (u : Sort) (x : Known) (f : Fact) (v : source.Value) (s : State) (m : Memory) → Rel K F s m → fits_scalar (Some u) x f ≡ true
       → KnownAs P function signature F names q r x f v → Valued u (expression_with (written [] x) r) v m
-  valued (number k) (a_number z) f v s m rel e is = record {
-    value = value.Number (c_kind k) z;
-    is = number-fitted k z e;
-    fits = number-stays k z e;
-    same = subst (λ v. Is K F (number k) v (value.Number (c_kind k) z)) (sym is) (record { is = refl; fits = e });
-  }
+  valued (number k) (a_number z) f v s m rel e is = subst (λ v. Valued (number k) (number_in z) v m) (sym is) (number-valued k z m e)
   valued (address u) null f v s m rel e is =
       record { value = value.Address pointer.Null; is = refl; fits = refl; same = subst (λ v. Is K F (address u) v (value.Address pointer.Null)) (sym is) refl }
   valued (code u) null f v s m rel e is = record { value = value.Function 0; is = refl; fits = refl; same = subst (λ v. Is K F (code u) v (value.Function 0)) (sym is) refl }

@@ -52,12 +52,13 @@ pub record StoredAs (Kx : Fixed) (F : Map) (u : Sort) (v : source.Value) (found 
   pub is : found ≡ Ok value
   pub same : Is Kx F u v value
 
-module _ (Kx : Fixed) (F : Map) where
-  number-stored : (k : Kind) (z : ℤ) → fits k z ≡ true → fitted (scalar_of (c_type (number k))) (value.Number Int (convert Int z)) ≡ Ok (value.Number (c_kind k) z)
-  number-stored k z f =
-      ap (λ a. fitted a (value.Number Int (convert Int z))) (stored-scalar (number k))
-      ∙ ap (λ y. Ok (value.Number (c_kind k) y)) (convert-c k (convert Int z) ∙ convert-int k z ∙ convert-same k z f)
+-- a number by its bits as an int, as a scalar of its kind
+pub number-stored : (k : Kind) (z : ℤ) → fits k z ≡ true → fitted (scalar_of (c_type (number k))) (value.Number Int (convert Int z)) ≡ Ok (value.Number (c_kind k) z)
+number-stored k z f =
+    ap (λ a. fitted a (value.Number Int (convert Int z))) (stored-scalar (number k))
+    ∙ ap (λ y. Ok (value.Number (c_kind k) y)) (convert-c k (convert Int z) ∙ convert-int k z ∙ convert-same k z f)
 
+module _ (Kx : Fixed) (F : Map) where
   pub as-stored-value : (u : Sort) (x : Kept) (v : source.Value) (c : Value) → Takes u x → InLocal Kx F x v c → StoredAs Kx F u v (fitted (scalar_of (c_type u)) c)
   as-stored-value (number k) (integer_of f) (source.Number z) c h i = record {
     value = value.Number (c_kind k) z;
@@ -83,7 +84,7 @@ module _ (Kx : Fixed) (F : Map) where
   is-type (code t) (source.Code f) c h = ap type_of h.is
   is-type u v c h = absurd h
 
-  stored-stays : (u : Sort) (v : source.Value) (c : Value) → Is Kx F u v c → fitted (scalar_of (c_type u)) c ≡ Ok c
+  pub stored-stays : (u : Sort) (v : source.Value) (c : Value) → Is Kx F u v c → fitted (scalar_of (c_type u)) c ≡ Ok c
   stored-stays u v c h =
       fitted-stays Kx F (scalar_of (c_type u)) c (is-type u v c h ∙ sym (stored-scalar u)) (ap (λ a. as_scalar a c) (stored-scalar u) ∙ is-scalar Kx F u v c h)
 

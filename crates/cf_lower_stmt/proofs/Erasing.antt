@@ -10,8 +10,8 @@ use Rattle.cf_core.specs.Classes.{Class}
 use Rattle.cf_plain.specs.Plain as plain
 use Rattle.cf_plain.specs.Plain.{Register, Action, Plain, Plains, act, set, branch, loop, switch, case_label, default_label, leave, continue, give, parts, nothing, more}
 use Rattle.cf_lower.specs.Kept.{Kept, unknown, integer_of, holds, argument, Keeping, local_kept, kept_by, untouched, after}
-use Rattle.cf_lower.specs.Expressions.{value_in, value, zero as nought, address_in, integer_in}
-use Rattle.cf_lower.specs.Statements.{Inside, stored_in, first_in, zeros_in, put_bytes, done, put_in, kept, given, lowered, all_lowered, items, stated_all, in_loop, in_stepped, in_switch, block, flag_set, if_flag}
+use Rattle.cf_lower.specs.Expressions.{value_in, value, zero as nought, integer_in}
+use Rattle.cf_lower.specs.Statements.{Inside, stored_in, first_in, zeros_in, bytes_in, done, put_in, kept, given, lowered, all_lowered, items, stated_all, in_loop, in_stepped, in_switch, block, flag_set, if_flag}
 use Rattle.cf_lower_expr.specs.Values.{local_cell}
 use Rattle.cf_lower_expr.proofs.Erasing.{value_in_erased, value_erased, local_erased}
 use Rattle.cf_lower_layout.specs.Sorts.{Sort}
@@ -41,12 +41,18 @@ zeros_erased cs (integer_of f) r = refl
 zeros_erased cs (holds s) r = refl
 zeros_erased cs (argument i t) r = refl
 
+bytes_erased : (cs : List Class) (x : Kept) (r : ℕ) (bytes : List ℕ) → bytes_in cs (erased x) r bytes ≡ bytes_in cs x r bytes
+bytes_erased cs unknown r bytes = refl
+bytes_erased cs (integer_of f) r bytes = refl
+bytes_erased cs (holds s) r bytes = refl
+bytes_erased cs (argument i t) r bytes = refl
+
 module _ (x : Inside) where
   done_erased : (g : Keeping) (a : Action) → done x (erasing g) a ≡ done x g a
   done_erased g (plain.store r q) = stored_erased (g r) r (value_in (erasing g) q) ∙ ap (stored_in (g r) r) (value_in_erased g q)
   done_erased g (plain.first r q) = first_erased (g r) r (value_in (erasing g) q) ∙ ap (first_in (g r) r) (value_in_erased g q)
   done_erased g (plain.zeros r) = zeros_erased x.classes (g r) r
-  done_erased g (plain.bytes r bytes) = ap (λ l. l ++ put_bytes (address_in r) 0 bytes) (zeros_erased x.classes (g r) r)
+  done_erased g (plain.bytes r bytes) = bytes_erased x.classes (g r) r bytes
   done_erased g a = refl
 
   as_kept : (g : Keeping) (a : Action) → local_kept (kept_by x.locals (erasing g) a) ≡ local_kept (kept_by x.locals g a)

@@ -2,12 +2,14 @@
 use Rattle.std.proofs.Common.{◌≡◌, ℕ, List, [], ◌++◌, Option, Some, None, refl, sym, ap, ◌∙◌, append-nil}
 use Rattle.std.specs.Option.{option_map}
 use Rattle.cc_whole.specs.Plain.{Expression, Statement}
+use Rattle.cf_base.specs.declared.kind.Kind.TheVariants.{Char}
 use Rattle.cf_core.specs.Classes.{Class}
 use Rattle.cf_core.specs.FromTypes.{Tables, type_of}
+use Rattle.cf_core.specs.Objects.{character_kind}
 use Rattle.cf_core.specs.Types.{SourceType}
 use Rattle.cf_lower.specs.Expressions.{address_in}
 use Rattle.cf_lower.specs.Kept.{Kept, unknown, integer_of, holds, argument}
-use Rattle.cf_lower.specs.Statements.{stored, stored_in, first_in, zeros, zeros_in}
+use Rattle.cf_lower.specs.Statements.{stored, stored_in, first_in, zeros, zeros_in, kind_in}
 use Rattle.cf_lower_layout.specs.Sorts.{number, address, code, sort_of}
 use Rattle.cf_lower_held.specs.declared.held.Argument.{Argument}
 use Rattle.cf_lower_held.specs.Holds.{argument_of, place_type}
@@ -55,6 +57,29 @@ not_zeroed cs (holds (number l)) r h = refl
 not_zeroed cs (holds (address u)) r h = cc
 not_zeroed cs (holds (code u)) r h = refl
 not_zeroed cs (argument i u) r h = refl
+
+is_kind : (k : Kept) (t : SourceType) → Some t ≡ place_type k → character_kind t ≡ kind_in k
+is_kind unknown t h = cc
+is_kind (integer_of f) t h = cc
+is_kind (holds (number l)) t h = cc
+is_kind (holds (address u)) t h = ap character_kind (some_same t u h)
+is_kind (holds (code u)) t h = cc
+is_kind (argument i u) t h = cc
+
+no_kind : (k : Kept) → None ≡ place_type k → kind_in k ≡ Char
+no_kind unknown h = refl
+no_kind (integer_of f) h = refl
+no_kind (holds (number l)) h = refl
+no_kind (holds (address u)) h = cc
+no_kind (holds (code u)) h = refl
+no_kind (argument i u) h = refl
+
+module _ (tables : Tables) (k : Kept) (o : Option PlaceType) (is : option_map (type_in tables) o ≡ place_type k) where
+  pub kind_place : (p : PlaceType) → o ≡ Some p → character_kind (type_in tables p) ≡ kind_in k
+  kind_place p some = is_kind k (type_in tables p) (sym (ap (option_map (type_in tables)) some) ∙ is)
+
+  pub kind_nowhere : o ≡ None → Char ≡ kind_in k
+  kind_nowhere none = sym (no_kind k (sym (ap (option_map (type_in tables)) none) ∙ is))
 
 module _ (tables : Tables) (k : Kept) (o : Option PlaceType) (is : option_map (type_in tables) o ≡ place_type k) (r : ℕ) (w v : List Statement) where
   here : (p : PlaceType) → o ≡ Some p → Some (type_in tables p) ≡ place_type k

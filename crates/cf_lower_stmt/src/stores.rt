@@ -2,11 +2,8 @@
 
 ghost use Rattle.std.specs.Prelude.{◌≡◌, ◌++◌, ◌+◌, [], ◌∷◌, pos, OnOk, IfOk};
 ghost use Rattle.std.specs.Option.{option_map};
-ghost use Rattle.cc_whole.specs.Plain as plain;
 ghost use Rattle.cc_whole.specs.Plain.{expression_of};
-ghost use Rattle.cc_whole.specs.declared.types.CConstant.TheVariants as constants;
 ghost use Rattle.cf_base.specs.Integers.{convert};
-ghost use Rattle.cf_base.specs.declared.kind.Kind.TheVariants as kind;
 ghost use Rattle.cf_core.specs.FromTypes.{type_of};
 ghost use Rattle.cf_lower.specs.Expressions as value;
 ghost use Rattle.cf_lower.specs.Statements as spec;
@@ -20,10 +17,10 @@ use crate::writes::{assign, push};
 use crate::zeros::zeros_in;
 use cc_whole::{CExpression, CPlace, CStatement};
 use cf_base::{Arith, Boxed, Items, Kind, Memory};
-use cf_lower_expr::cell_in;
+use cf_lower_expr::{cell_in, constant_of};
 use cf_lower_held::{Held, Scene, argument_in, place_in};
-use cf_lower_names::{Cell, address_in, as_stored, binary, constant, local_name, number};
-use cf_lower_types::{place_scalar, sort_of};
+use cf_lower_names::{Cell, address_in, as_stored, binary, local_name, number};
+use cf_lower_types::{place_kind, place_scalar, sort_of};
 use cf_types::{TyId, convert_int};
 use std::alloc::Global;
 
@@ -165,36 +162,46 @@ fn next(at: u64) -> Result<u64, Memory>
     at.checked_add(1).ok_or(Memory)
 }
 
-/// Bytes are stored from the place in a register on.
+/// Bytes are stored from the place in a register on, as characters of this kind.
 #[tactic(auto, using(crate::proofs::Lists::bytes_more))]
 fn put_bytes(
     alloc: Global,
     code: &mut Items<CStatement>,
+    kind: Kind,
     place: u32,
     bytes: &[u8],
 ) -> Result<(), Memory>
-    ensures { OnOk result (written code.new ≡ written code.old ++ spec.put_bytes (value.address_in place) 0 bytes.now) }
+    ensures { OnOk result (written code.new ≡ written code.old ++ spec.put_bytes kind (value.address_in place) 0 bytes.now) }
 {
     let mut at = 0;
     for byte in bytes {
         let start = address_in(alloc, place)?;
         let there = behind(alloc, start, at)?;
-        let held = character(alloc, *byte)?;
-        put(alloc, code, Cell::Number(Kind::Char), there, held)?;
+        let held = character(alloc, kind, *byte)?;
+        put(alloc, code, Cell::Number(kind), there, held)?;
         at = next(at)?;
     }
     Ok(())
 }
 
-/// A byte as the constant of a char.
-pub fn character(alloc: Global, byte: u8) -> Result<Boxed<CExpression>, Memory>
-    ensures { IfOk result (λ made. expression_of made ≡ plain.constant (constants.Signed (convert kind.Char (pos byte)))) }
+/// A byte as the constant of a character of this kind.
+pub fn character(alloc: Global, kind: Kind, byte: u8) -> Result<Boxed<CExpression>, Memory>
+    ensures { IfOk result (λ made. expression_of made ≡ value.constant_of (convert kind (pos byte))) }
 {
-    let Ok(held) = i32::try_from(convert_int(i64::from(byte), Kind::Char)) else {
-        return Err(Memory);
-    };
-    let made = constant(alloc, held)?;
+    let held = convert_int(i64::from(byte), kind);
+    let made = constant_of(alloc, held)?;
     Ok(made)
+}
+
+/// The kind of the characters of the array whose place a register holds.
+#[tactic(auto, using(crate::proofs::Objects::kind_nowhere))]
+fn kind_in(x: &Scene<'_>, kept: &Held) -> Kind
+    ensures { result ≡ spec.kind_in (kept_in x.now.tables.now kept.now) }
+{
+    match place_in(kept) {
+        Some(ty) => place_kind(x.tables, ty),
+        None => Kind::Char,
+    }
 }
 
 /// The bytes of a literal are stored in an array of characters, and 0 behind them (8.4.2).
@@ -208,6 +215,7 @@ pub(crate) fn bytes_in(
     ensures { OnOk result (written code.new ≡ written code.old ++ spec.bytes_in (classes_of x.now.tables.now) (kept_in x.now.tables.now kept.now) place bytes.now) }
 {
     zeros_in(x, code, kept, place)?;
-    put_bytes(x.alloc, code, place, bytes)?;
+    let kind = kind_in(x, kept);
+    put_bytes(x.alloc, code, kind, place, bytes)?;
     Ok(())
 }

@@ -1,5 +1,7 @@
 -- What is asked of the forms of types.
 use Rattle.std.specs.Prelude.{ℕ, ◌/◌, Bool, true, false, Option, Some, None}
+use Rattle.cf_base.specs.declared.kind.Kind.{Kind}
+use Rattle.cf_base.specs.declared.kind.Kind.TheVariants.{Char}
 use Rattle.cf_base.specs.Integers.{width}
 use Rattle.cf_types.specs.declared.ty.Ty.{Ty}
 use Rattle.cf_types.specs.declared.ty.Ty.TheVariants as ty
@@ -57,6 +59,11 @@ is_scalar_form x = false
 abbrev pub elements_in : Form → Option (ℕ × ℕ)
 elements_in (form.Array t n) = Some (t, n)
 elements_in x = None
+
+-- the kind of its integers, and of what is no integer that of char
+abbrev pub kind_in : Form → Kind
+kind_in (form.Integer k) = k
+kind_in x = Char
 
 -- the bytes of what is no array
 abbrev pub bytes_in : Form → ℕ

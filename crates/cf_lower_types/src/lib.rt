@@ -2,9 +2,10 @@
 //!
 //! A number that the unit's table does not have stands for `void`, so nothing is asked of numbers. `form` has a type by its outermost form, `place`
 //! the types of places, `scalar` what scalars are, `reference` what a name of a reference's type stands for, `functions` the parameters and results
-//! of functions, and `sizes` the bytes of objects.
+//! of functions, `sizes` the bytes of objects, and `characters` the kind of an array's characters.
 #![tactic(auto)]
 
+mod characters;
 mod form;
 mod functions;
 mod place;
@@ -13,6 +14,7 @@ mod scalar;
 mod sizes;
 mod tables;
 
+pub use characters::{character_kind, place_kind};
 pub use form::{Elements, Form, elements_in, form_of};
 pub use functions::{is_function, parameters, result_sort};
 pub use place::{PlaceType, element_of, item_of, place_scalar};

@@ -12,6 +12,7 @@ use Rattle.cf_core.specs.declared.operators.PointerOperator.{PointerOperator}
 use Rattle.cf_core.specs.declared.operators.PointerOperator.TheVariants as pointer
 use Rattle.cf_core.specs.declared.operators.UnaryOperator.TheVariants as sign
 use Rattle.cf_core.specs.Types.{Name}
+use Rattle.cf_core.specs.Objects.{character_kind}
 use Rattle.cf_lower_layout.specs.Sorts.{Sort, number, address, code, sort_of}
 use Rattle.cf_plain.specs.Plain as plain
 use Rattle.cf_plain.specs.Plain.{Register, Action, Plain, Plains, act, set, branch, nothing, more}
@@ -173,7 +174,7 @@ module _ (k : c.Known) where
   stored-checked x y w v e = tt
 
   bytes-stored : (x : Known) (b : List ℕ) → Well x → nat_le (length b) (2 ^ 22) ≡ true → AllChecked (stored_bytes [] x b) k
-  bytes-stored (at n o t) b w e = bytes-checked k (at_byte n o) 0 b (at-has n o w.0 w.1) (let l : 0 + length b ≤ 2 ^ 22 = grind (arith, nat_tests, e) in l)
+  bytes-stored (at n o t) b w e = bytes-checked k (character_kind t) (at_byte n o) 0 b (at-has n o w.0 w.1) (let l : 0 + length b ≤ 2 ^ 22 = grind (arith, nat_tests, e) in l)
   bytes-stored x b w e = tt
 
   module _ (f : Name) where

@@ -2,6 +2,7 @@
 use Rattle.std.proofs.Common.{◌≡◌, ℕ, zero, suc, ◌+◌, ◌*◌, true, ◌&&◌, List, [], ◌∷◌, ◌++◌, refl}
 use Rattle.std.specs.Prelude.{Option, Some, None}
 use Rattle.cf_base.proofs.Tests.{all_of}
+use Rattle.cf_base.specs.declared.kind.Kind.{Kind}
 use Rattle.cf_core.specs.Types.{SourceType, array, const, result as result_type}
 use Rattle.cf_core.specs.Classes.{Class}
 use Rattle.cf_core.specs.Size.{size}
@@ -15,7 +16,7 @@ use Rattle.cf_lower.specs.Kept.{Kept, holds, argument, Keeping, local_kept, kept
 use Rattle.cf_lower.specs.Written.{if_scalar, c_type, result_name}
 use Rattle.cf_lower.specs.Expressions.{zero as nought, address_in, value_in}
 use Rattle.cf_lower.specs.Expressions as value
-use Rattle.cf_lower.specs.Statements.{Inside, put, stored_in, first_in, behind, for_each, zeros, zeros_in, put_bytes, called, done, put_in, kept, no_value, given, flag_set, if_flag, set_register, passed, through, in_stepped, in_loop, in_switch, stated_all, lowered, all_lowered, items}
+use Rattle.cf_lower.specs.Statements.{Inside, put, stored_in, first_in, behind, for_each, zeros, zeros_in, put_bytes, kind_in, called, done, put_in, kept, no_value, given, flag_set, if_flag, set_register, passed, through, in_stepped, in_loop, in_switch, stated_all, lowered, all_lowered, items}
 
 abbrev pub AllSpelled : List Statement → Type 0
 AllSpelled [] = Unit {0}
@@ -58,9 +59,9 @@ module _ (classes : List Class) where
   zero-spelled (holds (address t)) r = zeros-spelled t (address_in r) 0
   zero-spelled x r = tt
 
-pub bytes-spelled : (p : Expression) (i : ℕ) (b : List ℕ) → AllSpelled (put_bytes p i b)
-bytes-spelled p i [] = tt
-bytes-spelled p i (c ∷ b) = (refl, bytes-spelled p (suc i) b)
+pub bytes-spelled : (k : Kind) (p : Expression) (i : ℕ) (b : List ℕ) → AllSpelled (put_bytes k p i b)
+bytes-spelled k p i [] = tt
+bytes-spelled k p i (c ∷ b) = (refl, bytes-spelled k p (suc i) b)
 
 called-spelled : (f : Callee) (t : SourceType) (is : List ℕ) (into : Option Register) → AllSpelled (called f t is into)
 called-spelled f t is None = (refl, tt)
@@ -75,7 +76,7 @@ done-spelled : (x : Inside) (g : Keeping) (a : Action) → AllSpelled (done x g 
 done-spelled x g (plain.store r q) = stored-spelled (g r) r (value_in g q)
 done-spelled x g (plain.first r q) = first-spelled (g r) r (value_in g q)
 done-spelled x g (plain.zeros r) = zero-spelled x.classes (g r) r
-done-spelled x g (plain.bytes r b) = spelled-append (zeros_in x.classes (g r) r) (put_bytes (address_in r) 0 b) (zero-spelled x.classes (g r) r) (bytes-spelled (address_in r) 0 b)
+done-spelled x g (plain.bytes r b) = spelled-append (zeros_in x.classes (g r) r) (put_bytes (kind_in (g r)) (address_in r) 0 b) (zero-spelled x.classes (g r) r) (bytes-spelled (kind_in (g r)) (address_in r) 0 b)
 done-spelled x g (plain.call name t object is into) = called-spelled (c.by_name name) t is None
 done-spelled x g (plain.pointer_call object r t is into) = called-spelled (through r t) t is None
 done-spelled x g a = tt

@@ -3,6 +3,7 @@ use Rattle.std.proofs.Common.{◌≡◌, ℕ, Bool, true, false, List, [], ◌�
 use Rattle.std.specs.Prelude.{Option, Some, None}
 use Rattle.std.specs.List.{flat_map}
 use Rattle.cf_core.specs.Types.{Name}
+use Rattle.cf_core.specs.Objects.{character_kind}
 use Rattle.cf_lower_layout.specs.Sorts.{Sort, sort_of}
 use Rattle.cf_plain.specs.Plain as plain
 use Rattle.cf_plain.specs.Plain.{Register, Plain, Plains, act, branch, nothing, more}
@@ -25,7 +26,7 @@ module _ (f : Name) where
   stored-spelled x y = tt
 
   filled-spelled : (x : Known) (b : List ℕ) → AllSpelled (stored_bytes [] x b)
-  filled-spelled (at n o t) b = bytes-spelled (at_byte n o) 0 b
+  filled-spelled (at n o t) b = bytes-spelled (character_kind t) (at_byte n o) 0 b
   filled-spelled x b = tt
 
   done-spelled : (g : Register → Known) (a : plain.Action) → AllSpelled (constant_done [] g a)

@@ -1,9 +1,9 @@
--- What is converted to an int, or to a char, fits an int.
+-- What is converted to an int fits an int.
 use Rattle.std.proofs.Common.{◌≡◌, ℕ, suc, ◌+◌, ◌-◌, ◌*◌, ◌%◌, ◌^◌, ◌<◌, ◌≤◌, Bool, true, false, if◌then◌else◌, nat_lt, refl, arith}
 use Rattle.std.specs.Prelude.{ℤ, pos, negsuc}
 use Rattle.std.proofs.lemmas.Bool.Decides.{nat_tests}
 use Rattle.std.proofs.lemmas.Nat.{mod_below}
-use Rattle.cf_base.specs.declared.kind.Kind.TheVariants.{Char, Int}
+use Rattle.cf_base.specs.declared.kind.Kind.TheVariants.{Int}
 use Rattle.cf_base.specs.Integers.{fits, convert, bits_of}
 
 below : (n : ℕ) → n < 4294967296 → fits Int (if nat_lt n 2147483648 then pos n else negsuc (4294967296 - suc n)) ≡ true
@@ -19,17 +19,3 @@ word (negsuc n) = let r : n % 4294967296 < 4294967296 = mod_below n 4294967296 (
 
 pub int-fits : (z : ℤ) → fits Int (convert Int z) ≡ true
 int-fits z = below (bits_of 32 z) (word z)
-
-small : (n : ℕ) → n < 256 → fits Int (if nat_lt n 128 then pos n else negsuc (256 - suc n)) ≡ true
-small n lt = by (nat_lt n 128) refl
-  where
-    by : (b : Bool) → nat_lt n 128 ≡ b → fits Int (if b then pos n else negsuc (256 - suc n)) ≡ true
-    by true e = grind (arith, nat_tests, lt)
-    by false e = grind (arith, nat_tests, e, lt)
-
-byte : (z : ℤ) → bits_of 8 z < 256
-byte (pos n) = mod_below n 256 (omega arith)
-byte (negsuc n) = let r : n % 256 < 256 = mod_below n 256 (omega arith) in omega (arith, r)
-
-pub char-fits : (z : ℤ) → fits Int (convert Char z) ≡ true
-char-fits z = small (bits_of 8 z) (byte z)

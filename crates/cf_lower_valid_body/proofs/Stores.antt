@@ -5,7 +5,8 @@ use Rattle.std.specs.List.{list_all}
 use Rattle.std.proofs.Math.Nat.{add-mul}
 use Rattle.std.proofs.lemmas.Bool.Decides.{nat_tests}
 use Rattle.std.proofs.lemmas.Nat.{mul-le}
-use Rattle.cf_base.specs.declared.kind.Kind.TheVariants.{Char, Int}
+use Rattle.cf_base.specs.declared.kind.Kind.{Kind}
+use Rattle.cf_base.specs.declared.kind.Kind.TheVariants.{Int}
 use Rattle.cf_base.specs.declared.arith.Arith.TheVariants as op
 use Rattle.cf_base.specs.Integers.{convert}
 use Rattle.cf_base.proofs.Tests.{both, all_of}
@@ -36,17 +37,17 @@ use Rattle.cc_whole.specs.Statements.{assigned, stored_in as target_stored, call
 use Rattle.cf_lower.specs.Kept.{Kept, holds as keeps, argument, integer_of, Keeping, Locals, local_kept, declared_kept, is_argument, kept_by}
 use Rattle.cf_lower.specs.Written.{if_scalar, c_type, register_type, int_constant, words, result_of, local_name, register_name, result_name}
 use Rattle.cf_lower.specs.Written as written
-use Rattle.cf_lower.specs.Expressions.{in_register, address_in, local_value, value_in, as_value, as_stored, value}
+use Rattle.cf_lower.specs.Expressions.{constant_of, in_register, address_in, local_value, value_in, as_value, as_stored, value}
 use Rattle.cf_lower.specs.Expressions as expressions
-use Rattle.cf_lower.specs.Statements.{Inside, block, set_register, put, stored, stored_in, first_in, behind, for_each, zeros, zeros_in, put_bytes, bytes_in, passed, c_types, signature, called, through, done, put_in, kept}
+use Rattle.cf_lower.specs.Statements.{Inside, block, set_register, put, stored, stored_in, first_in, behind, for_each, zeros, zeros_in, put_bytes, kind_in, bytes_in, passed, c_types, signature, called, through, done, put_in, kept}
 use Rattle.cf_lower_kept.specs.Ready.{is_code, action_ready}
 use Rattle.cf_lower_kept.specs.Told.{Told, ToldIf, AllTold}
 use Rattle.cf_lower_program.specs.Types.{is_lowered, is_callable}
 use Rattle.cf_lower_valid_body.specs.Scope.{Own, NamesFunction, TakesResult, Fits, standing, is_local_type}
 use Rattle.cf_lower_valid_body.proofs.Types.{sort-same, sort-bare, bare-small, lowered-small}
 use Rattle.cf_lower_valid_body.proofs.Keeping.{kept_lowered, FitIf, Good, fit-below}
-use Rattle.cf_lower_valid_body.proofs.Numbers.{int-fits, char-fits}
-use Rattle.cf_lower_valid_body.proofs.Typed.{Has, type-same, constant-has, count-has, value-has, binary-has, value-cast, stored-cast, zero-stored, integer-cast}
+use Rattle.cf_lower_valid_body.proofs.Numbers.{int-fits}
+use Rattle.cf_lower_valid_body.proofs.Typed.{Has, type-same, constant-has, count-has, value-has, binary-has, value-cast, stored-cast, zero-stored}
 use Rattle.cf_lower_valid_body.proofs.Values.{held_type, strict, local-has, in-register, pointer-has, value-in, GetsIf, is_call, value-gets}
 
 -- ---- lists of statements
@@ -111,14 +112,14 @@ module _ (k : Known) where
       by None = tt
       by (Some s) = (put-checked s (behind p at) expressions.zero (behind-has p at h (omega (arith, le))) (zero-stored k.names s), tt)
 
-  pub bytes-checked : (p : Expression) (i : ℕ) (bs : List ℕ) → Has k.names p ty.Pointer → i + length bs ≤ 2 ^ 22 → AllChecked (put_bytes p i bs) k
-  bytes-checked p i [] h le = tt
-  bytes-checked p i (b ∷ bs) h le =
-      let fit : i + suc (length bs) ≤ 2 ^ 22 = le in (
-        put-checked (number Char) (behind p i) (constant (constants.Signed (convert Char (pos b)))) (behind-has p i h (omega (arith, fit)))
-            (integer-cast k.names ty.Char ty.Int (constant (constants.Signed (convert Char (pos b))))
-            (constant-has k.names (constants.Signed (convert Char (pos b))) (char-fits (pos b))) refl refl),
-        bytes-checked p (suc i) bs h (omega (arith, fit)),
+  pub bytes-checked : (kind : Kind) (p : Expression) (i : ℕ) (bs : List ℕ) → Has k.names p ty.Pointer → i + length bs ≤ 2 ^ 22 → AllChecked (put_bytes kind p i bs) k
+  bytes-checked kind p i [] h le = tt
+  bytes-checked kind p i (b ∷ bs) h le =
+      let fit : i + suc (length bs) ≤ 2 ^ 22 = le in
+      let z = convert kind (pos b) in (
+        put-checked (number kind) (behind p i) (constant_of z) (behind-has p i h (omega (arith, fit)))
+            (stored-cast k.names (number kind) (constant_of z) (constant-has k.names (constants.Signed (convert Int z)) (int-fits z))),
+        bytes-checked kind p (suc i) bs h (omega (arith, fit)),
       )
 
 -- ---- what a register holds, for an object
@@ -365,8 +366,8 @@ module _ (names : List Named) (f : Name) (locals : Locals) (result : SourceType)
     done-checked (plain_action.first r q) fits fit s = first-checked (g r) (g q) r q h (told r) (told q) (good r) (good q) s
     done-checked (plain_action.zeros r) fits fit s = zero-checked (g r) r (h r) (told r) (good r) s
     done-checked (plain_action.bytes r b) fits fit s =
-        all-append (zeros_in [] (h r) r) (put_bytes (address_in r) 0 b) here (zero-checked (g r) r (h r) (told r) (good r) s)
-        (bytes-checked here (address_in r) 0 b (pointer-has names f locals result n d own types r (set plain.filled refl r s)) (bytes-small b fit.lowered))
+        all-append (zeros_in [] (h r) r) (put_bytes (kind_in (h r)) (address_in r) 0 b) here (zero-checked (g r) r (h r) (told r) (good r) s)
+        (bytes-checked here (kind_in (h r)) (address_in r) 0 b (pointer-has names f locals result n d own types r (set plain.filled refl r s)) (bytes-small b fit.lowered))
     done-checked (plain_action.call name t on is into) fits fit s =
         called-checked (by_name name) t is None (by-name name t fit.names_it.0) (callable-parts _ (is_callable t) _ fit.lowered) fits fit.names_it.1 tt
     done-checked (plain_action.pointer_call None r t is None) fits fit s =

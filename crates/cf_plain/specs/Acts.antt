@@ -11,7 +11,7 @@ use Rattle.cf_core.specs.Pointers.{truth_value, pointer_op, from_void_value, dow
 use Rattle.cf_core.specs.Building.{dispatch, up_value, part_place, has_part}
 use Rattle.cf_core.specs.Calls.{Program, Again, root, run_named, name_function, finish_static as to_be_destroyed, destroy, delete_value}
 use Rattle.cf_core.specs.Scalars.{truth_of, converted_value, operated, signed, changed_value, indexed, decayed, pointed_to, to_derived, through_pointer}
-use Rattle.cf_core.specs.Objects.{local_place, static_type, static_place, same_type, literal_object, new_local, settle, write_bytes, element_count, begin_list as list_begins, end_list as list_ends, count_of, new_storage, run_pointer}
+use Rattle.cf_core.specs.Objects.{local_place, static_type, static_place, same_type, literal_object, new_local, settle, character_kind, write_bytes, element_count, begin_list as list_begins, end_list as list_ends, count_of, new_storage, run_pointer}
 use Rattle.cf_plain.specs.Plain.{Register, Action, number, text, this, result, local, static_object, function, member, built_part, read, dereference, decay, index, convert, up, down, from_void, to_member, data_pointer, function_pointer, through, operate, unary, truth, logical_not, pointer_operate, changed as new_value, store, declare, first, zeros, bytes, begin_list, end_list, carry, carry_over, finish, new, new_array, delete, is_reached, reach, finish_static, call, virtual_call, pointer_call, build}
 
 -- what the registers hold
@@ -114,7 +114,7 @@ module _ (again : Again) (P : Program) (g : Registers) where
     valid (is_array t)
     valid (nat_le (length b) (element_count P.classes t))
     fill_zeros P.classes p
-    doing (write_bytes p 0 b)
+    doing (write_bytes (character_kind t) p 0 b)
   acts (begin_list r) = place_in g r >>= (λ p. doing (list_begins p))
   acts (end_list r) = place_in g r >>= (λ p. doing (list_ends p))
   acts (carry t r q) = do
@@ -139,8 +139,14 @@ module _ (again : Again) (P : Program) (g : Registers) where
     new_storage P true (array t n) (λ o. gives (At (inner (item 0) (root o))))
   acts (delete many t r) = used_in g r >>= delete_value again P many t
   acts (is_reached name) = state >>= (λ s. gives (truth_value (list_any (bytes_eq name) s.reached)))
-  acts (reach name) = static_place P name >> doing (changed (λ s. record s { reached = name ∷ s.reached }))
-  acts (finish_static name) = static_place P name >>= (λ p. doing (to_be_destroyed P (static_type P name) p.object))
+  acts (reach name) = do
+    p ← static_place P name
+    changed (λ s. record s { reached = name ∷ s.reached })
+    gives (At p)
+  acts (finish_static name) = do
+    p ← static_place P name
+    to_be_destroyed P (static_type P name) p.object
+    gives (At p)
   acts (call name t object args into) = do
     name_function P name t
     p ← maybe_place g object

@@ -57,7 +57,7 @@ pub data Action : Type 0 where
   new : SourceType → Action  -- storage for an object, or null (5.3.3)
   new_array : SourceType → Register → Action  -- for so many elements
   delete : Bool → SourceType → Register → Action  -- in the form for arrays where true (5.3.4)
-  -- static objects (3.4, 6.7)
+  -- static objects (3.4, 6.7); what is done to one gives its place, that of a reference too (8.4.3)
   is_reached : Name → Action  -- 1 or 0
   reach : Name → Action
   finish_static : Name → Action  -- it is to be destroyed at the end of the run

@@ -3,7 +3,7 @@ use Rattle.std.proofs.Common.{◌≡◌, ℕ, zero, suc, Bool, true, false, ◌&
 use Rattle.std.specs.Prelude.{pos, Option, Some, None, find, nat_eq, nat_lt}
 use Rattle.cf_base.specs.Event.{Enter}
 use Rattle.cf_base.specs.World.{World, Ran, Went, Stops, and_then, spend_of, deeper, show, next_of}
-use Rattle.cf_base.specs.declared.kind.Kind.TheVariants.{Char}
+use Rattle.cf_base.specs.declared.kind.Kind.{Kind}
 use Rattle.cf_base.specs.Integers.{convert as converted}
 use Rattle.cf_core.specs.Types.{Name, SourceType, void, integer, enumeration, class, pointer, reference, array, takes, gives as gives_type, data_member, function_member, const, parameters, result}
 use Rattle.cf_core.specs.Classes.{Class, class_named, destructor_in}
@@ -57,10 +57,10 @@ pub keeps-zeros : (classes : List Class) (p : Place) → Keeps Q (fill_zeros cla
 keeps-zeros classes p =
     keeps-at Q _ (λ s. keeps-object_changed p.object (hold_all p.route (λ r. Some (zero_of (type_at classes (s.object p.object).type (r ++ p.route))))))
 
-pub keeps-bytes : (p : Place) (i : ℕ) (b : List ℕ) → Keeps Q (write_bytes p i b)
-keeps-bytes p i [] = keeps-gives Q tt
-keeps-bytes p i (b ∷ rest) =
-    keeps-next Q (first_value (inner (item i) p) (Number (converted Char (pos b)))) (write_bytes p (suc i) rest) (keeps-first_value _ _) (keeps-bytes p (suc i) rest)
+pub keeps-bytes : (k : Kind) (p : Place) (i : ℕ) (b : List ℕ) → Keeps Q (write_bytes k p i b)
+keeps-bytes k p i [] = keeps-gives Q tt
+keeps-bytes k p i (b ∷ rest) =
+    keeps-next Q (first_value (inner (item i) p) (Number (converted k (pos b)))) (write_bytes k p (suc i) rest) (keeps-first_value _ _) (keeps-bytes k p (suc i) rest)
 
 keeps-first : (classes : List Class) (p : Place) (v : Value) → Keeps Q (state >>= (λ s. when (is_scalar (place_type classes s p)) (used v >>= first_value p) malformed))
 keeps-first classes p v =

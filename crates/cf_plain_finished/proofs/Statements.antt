@@ -15,7 +15,7 @@ use Rattle.cf_core.specs.Pointers.{truth_value, pointer_op, from_void_value}
 use Rattle.cf_core.specs.Scalars.{truth_of, converted_value, operated, signed, changed_value, indexed, decayed, pointed_to}
 use Rattle.cf_core.specs.Calls as core
 use Rattle.cf_core.specs.Calls.{Program, root, name_function, run_named}
-use Rattle.cf_core.specs.Objects.{local_place, static_place, same_type, literal_object, new_local, settle, write_bytes, element_count, run_pointer}
+use Rattle.cf_core.specs.Objects.{local_place, static_place, same_type, literal_object, new_local, settle, character_kind, write_bytes, element_count, run_pointer}
 use Rattle.cf_core.specs.Program.{begins, ends, unbuilds, ended_well}
 use Rattle.cf_plain.specs.Plain as plain
 use Rattle.cf_plain.specs.Plain.{Register, Action, Plain, Plains, act, set, branch, loop, switch, case_label, default_label, leave, continue, give, parts, nothing, more, PlainFunction}
@@ -81,7 +81,7 @@ module _ (again : Again) (turns : TurnsKept again) (enters : EntersKept again) (
         keeps-then Q (place_in g r) _ (keeps-place_in Q g r) (λ p. keeps-at Q _ (λ s.
         keeps-next Q (valid (is_array (place_type P.classes s p))) _ (keeps-valid Q _)
         (keeps-next Q (valid (nat_le (length b) (element_count P.classes (place_type P.classes s p)))) _ (keeps-valid Q _)
-        (keeps-next Q (fill_zeros P.classes p) (doing (write_bytes p 0 b)) (keeps-zeros P.classes p) (keeps-doing (write_bytes p 0 b) (keeps-bytes p 0 b))))))
+        (keeps-next Q (fill_zeros P.classes p) (doing (write_bytes (character_kind (place_type P.classes s p)) p 0 b)) (keeps-zeros P.classes p) (keeps-doing (write_bytes (character_kind (place_type P.classes s p)) p 0 b) (keeps-bytes (character_kind (place_type P.classes s p)) p 0 b))))))
     action-stays (plain.finish t i) h = keeps-finish (calls again) P none t i
     action-stays (plain.call name t None is None) h = keeps-call again enters P name t is
     action-stays (plain.pointer_call None r t is None) h =

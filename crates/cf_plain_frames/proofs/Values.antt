@@ -15,10 +15,10 @@ use Rattle.cf_core.specs.Types.{Name, SourceType, void, integer, enumeration, po
 use Rattle.cf_core.specs.Classes.{Class}
 use Rattle.cf_core.specs.Core.{Change, arithmetic, moved, Function}
 use Rattle.cf_core.specs.Places.{Place, is_inside, is_reference, is_scalar}
-use Rattle.cf_core.specs.Store.{Value, Nothing, Missing, Built, Number, Null, At, Code, DataMember, FunctionMember, is_usable, is_dead}
+use Rattle.cf_core.specs.Store.{Value, Nothing, Missing, Built, Number, Null, At, Code, DataMember, FunctionMember, is_usable}
 use Rattle.cf_core.specs.Run.{State, ◌>>=◌, gives, malformed, undefined, done, need, valid, some_or, ok_or_act}
 use Rattle.cf_core.specs.Access.{place_type, used, place_of, number_of, use_place, name_part, names_scalar, read_place, bound_to, followed}
-use Rattle.cf_core.specs.Pointers.{element_of, bound_of, further, up_to, moved_place, moved_value, sum_of, moved_back, both_stand, same_array, truth_value, difference_of, ordered, comparable, unlike_null, equal_values, pointer_op, from_void_value}
+use Rattle.cf_core.specs.Pointers.{element_of, bound_of, further, up_to, moved_place, moved_value, sum_of, moved_back, both_stand, both_there, same_array, truth_value, difference_of, ordered, comparable, unlike_null, equal_values, pointer_op, from_void_value}
 use Rattle.cf_core.specs.Scalars.{truth_of, as_pointer, converted_value, operated, signed, minus, moved_by, changed_value, indexed, decayed, pointed_to}
 use Rattle.cf_core.specs.Calls.{Program, root, is_library, has_type, function_named, name_function}
 use Rattle.cf_core.specs.Objects.{local_place, static_place, static_number, static_type, same_type}
@@ -113,7 +113,7 @@ module _ (Q : State → Type 0) where
 
   keeps-moved_place : (classes : List Class) (p : Place) (z : ℤ) → Keeps Q (moved_place classes p z)
   keeps-moved_place classes p z =
-      keeps-at Q _ (λ s. keeps-next Q (need (not (is_dead classes (s.object p.object) p.route)) 5) _ (keeps-need Q _ 5)
+      keeps-at Q _ (λ s. keeps-next Q (need (not (s.object p.object).is_gone) 5) _ (keeps-need Q _ 5)
       (keeps-then Q (up_to (bound_of classes (s.object p.object).type (element_of p.route)) (further (element_of p.route).index z)) _
       (keeps-up_to (bound_of classes (s.object p.object).type (element_of p.route)) (further (element_of p.route).index z)) (λ i. keeps-gives Q _)))
 
@@ -157,14 +157,14 @@ module _ (Q : State → Type 0) where
   keeps-moved_back classes v (Number z) = keeps-moved classes v (neg_ℤ z)
   keeps-moved_back classes v w = keeps-malformed Q
 
-  keeps-difference : (classes : List Class) (v w : Value) → Keeps Q (difference_of classes v w)
-  keeps-difference classes (At p) (At q) =
-      keeps-at Q _ (λ s. keeps-next Q (need (both_stand classes s p q) 5) _ (keeps-need Q _ 5)
+  keeps-difference : (v w : Value) → Keeps Q (difference_of v w)
+  keeps-difference (At p) (At q) =
+      keeps-at Q _ (λ s. keeps-next Q (need (both_there s p q) 5) _ (keeps-need Q _ 5)
       (keeps-next Q (need (same_array p q) 6) _ (keeps-need Q _ 6) (keeps-gives Q _)))
-  keeps-difference classes Null Null = keeps-undefined Q 4
-  keeps-difference classes Null (At q) = keeps-undefined Q 4
-  keeps-difference classes (At p) Null = keeps-undefined Q 4
-  keeps-difference classes v w = keeps-malformed Q
+  keeps-difference Null Null = keeps-undefined Q 4
+  keeps-difference Null (At q) = keeps-undefined Q 4
+  keeps-difference (At p) Null = keeps-undefined Q 4
+  keeps-difference v w = keeps-malformed Q
 
   keeps-ordered : (classes : List Class) (less : ℕ → ℕ → Bool) (v w : Value) → Keeps Q (ordered classes less v w)
   keeps-ordered classes less (At p) (At q) =
@@ -196,7 +196,7 @@ module _ (Q : State → Type 0) where
   pub keeps-pointers : (classes : List Class) (o : PointerOperator) (v w : Value) → Keeps Q (pointer_op classes o v w)
   keeps-pointers classes op.Add v w = keeps-sum classes v w
   keeps-pointers classes op.Subtract v w = keeps-moved_back classes v w
-  keeps-pointers classes op.Difference v w = keeps-difference classes v w
+  keeps-pointers classes op.Difference v w = keeps-difference v w
   keeps-pointers classes op.Less v w = keeps-ordered classes nat_lt v w
   keeps-pointers classes op.Greater v w = keeps-ordered classes (λ i j. nat_lt j i) v w
   keeps-pointers classes op.LessEqual v w = keeps-ordered classes nat_le v w

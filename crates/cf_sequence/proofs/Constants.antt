@@ -1,19 +1,19 @@
 -- Constant initialisers: they are built, and add no local.
-use Rattle.std.proofs.Common.{◌≡◌, Bool, true, false, not, ◌&&◌, ◌||◌, if◌then◌else◌, List, [], ◌++◌, length, refl, ◌∙◌, ap, subst}
+use Rattle.std.proofs.Common.{◌≡◌, Bool, true, false, not, ◌&&◌, ◌||◌, if◌then◌else◌, List, [], ◌++◌, length, refl, sym, ◌∙◌, ap, subst}
 use Rattle.std.specs.Prelude.{is_some}
 use Rattle.std.proofs.lemmas.Grind.{flat_map-append}
 use Rattle.cf_base.proofs.Tests.{both, all_of}
 use Rattle.cf_core.specs.Types.{SourceType, plain, element}
 use Rattle.cf_core.specs.Classes.{Class}
 use Rattle.cf_core.specs.Core as core
-use Rattle.cf_core.specs.Core.{Core, Cores, Static, none}
+use Rattle.cf_core.specs.Core.{Core, Cores, Static, no_temporary, static_temporary, none}
 use Rattle.cf_core.specs.Joined.{is_nothing}
 use Rattle.cf_core.specs.Nodes.{nodes, nodes_all}
 use Rattle.cf_core.specs.Places.{is_reference}
 use Rattle.cf_plain.specs.Plain.{Plains, nothing}
-use Rattle.cf_sequence.specs.Built.{is_row, is_value, is_start, is_initial, is_filling, is_list, is_element, are_elements, is_constant_value, is_constant_initial, is_constant_list, are_constant_elements, is_constant_element, is_constant_start, is_built_static}
+use Rattle.cf_sequence.specs.Built.{is_row, is_value, is_start, is_initial, is_filling, is_list, is_element, are_elements, is_constant_value, is_constant_initial, is_constant_list, are_constant_elements, is_constant_element, is_bound, is_constant_set, is_constant_start, is_built_static}
 use Rattle.cf_sequence.specs.Made.{added, makes, width}
-use Rattle.cf_sequence.specs.Statements.{type_of_static, initialised, statement}
+use Rattle.cf_sequence.specs.Statements.{type_of_static, binds, initialised, statement}
 use Rattle.cf_sequence.specs.Sequenced.{outside, sequenced_start}
 use Rattle.cf_sequence.proofs.Calling.{never, or-else}
 use Rattle.cf_sequence.proofs.Filling.{filling-adds}
@@ -21,7 +21,7 @@ use Rattle.cf_sequence.proofs.Fulls.{nothing-is}
 
 -- they are built
 
-constant-value : (e : Core) → is_constant_value e ≡ true → is_value e ≡ true
+pub constant-value : (e : Core) → is_constant_value e ≡ true → is_value e ≡ true
 constant-value (core.number z) ok = refl
 constant-value (core.text j bytes) ok = refl
 constant-value (core.static_object name t) ok = refl
@@ -94,19 +94,16 @@ module _ (all : List Static) (x : Static) (ok : is_built_static all x ≡ true) 
   T = type_of_static all x.name
 
   pub constant-object : x.is_constant ≡ true
-  constant-object = (both x.is_constant (not (is_reference T) && is_constant_start T x.start) ok).0
-
-  pub plain-object : not (is_reference T) ≡ true
-  plain-object = (both (not (is_reference T)) (is_constant_start T x.start) (both x.is_constant (not (is_reference T) && is_constant_start T x.start) ok).1).0
+  constant-object = (both x.is_constant (is_constant_start T x.start) ok).0
 
   pub constant-start : is_constant_start T x.start ≡ true
-  constant-start = (both (not (is_reference T)) (is_constant_start T x.start) (both x.is_constant (not (is_reference T) && is_constant_start T x.start) ok).1).1
+  constant-start = (both x.is_constant (is_constant_start T x.start) ok).1
 
 pub start-is : (cs : List Class) (all : List Static) (x : Static) → x.is_constant ≡ true → sequenced_start cs all x ≡ set_as cs x (type_of_static all x.name)
 start-is cs all x constant = ap (start_by cs all x) constant
 
-pub something-constant : (t : SourceType) (e : Core) → is_constant_start t e ≡ true → is_nothing e ≡ false → is_constant_element t e ≡ true
-something-constant t e ok there = subst (λ b. b || is_constant_element t e ≡ true) there ok
+pub something-constant : (t : SourceType) (e : Core) → is_constant_start t e ≡ true → is_nothing e ≡ false → is_constant_set t e ≡ true
+something-constant t e ok there = subst (λ b. b || is_constant_set t e ≡ true) there ok
 
 or-right : (a b : Bool) → b ≡ true → a || b ≡ true
 or-right true b e = refl
@@ -162,11 +159,37 @@ mutual
       let parts = both (is_constant_element t e) (are_constant_elements t es) ok in
       adds-two (nodes e) (nodes_all es) (or-else (is_constant_initial e) (is_constant_list t e) parts.0 (initial-adds e) (list-adds t e)) (elements-add t es parts.1)
 
-pub element-adds : (t : SourceType) (e : Core) → is_constant_element t e ≡ true → added (nodes e) ≡ []
+element-adds : (t : SourceType) (e : Core) → is_constant_element t e ≡ true → added (nodes e) ≡ []
 element-adds t e ok = or-else (is_constant_initial e) (is_constant_list t e) ok (initial-adds e) (list-adds t e)
 
-pub element-width : (t : SourceType) (e : Core) → is_constant_element t e ≡ true → width e ≡ 0
-element-width t e ok = ap length (element-adds t e ok)
+bound-adds : (e : Core) → is_bound e ≡ true → added (nodes e) ≡ []
+bound-adds (core.bind no_temporary e) ok = constant-adds e ok
+bound-adds (core.bind (static_temporary name) e) ok = constant-adds e ok
+bound-adds e ok = never ok
+
+is-false : (b : Bool) → not b ≡ true → b ≡ false
+is-false true e = sym e
+is-false false e = refl
+
+-- What sets an object is a reference's, or another object's.
+pub by-set : {X : Type 0} (t : SourceType) (e : Core) → is_constant_set t e ≡ true → (is_bound e ≡ true → X) → (is_reference t ≡ false → is_constant_element t e ≡ true → X) → X
+by-set t e ok bound element =
+    or-else (is_bound e) (not (is_reference t) && is_constant_element t e) ok bound
+    (λ others. let parts = both (not (is_reference t)) (is_constant_element t e) others in element (is-false (is_reference t) parts.0) parts.1)
+
+pub bound-binds : (e : Core) → is_bound e ≡ true → binds e ≡ true
+bound-binds (core.bind h e) ok = refl
+bound-binds e ok = never ok
+
+pub element-binds : (t : SourceType) (e : Core) → is_constant_element t e ≡ true → binds e ≡ false
+element-binds t (core.bind h e) ok = never ok
+element-binds t e ok = refl
+
+pub set-adds : (t : SourceType) (e : Core) → is_constant_set t e ≡ true → added (nodes e) ≡ []
+set-adds t e ok = by-set t e ok (bound-adds e) (λ other. element-adds t e)
+
+pub set-width : (t : SourceType) (e : Core) → is_constant_set t e ≡ true → width e ≡ 0
+set-width t e ok = ap length (set-adds t e ok)
 
 pub start-adds : (t : SourceType) (e : Core) → is_constant_start t e ≡ true → added (nodes e) ≡ []
-start-adds t e ok = or-else (is_nothing e) (is_constant_element t e) ok (λ none. ap (λ e. added (nodes e)) (nothing-is e none)) (element-adds t e)
+start-adds t e ok = or-else (is_nothing e) (is_constant_set t e) ok (λ none. ap (λ e. added (nodes e)) (nothing-is e none)) (set-adds t e)

@@ -82,7 +82,7 @@ module _ (again : calling.Again) (again' : running.Again) (P : Program) (bodies 
 
   -- one element in the core
   abbrev core_item : Bool → Core → Place → Act (Unit {0})
-  core_item tick e q = one_tick tick >> core_settled P.classes q (full_expression again P (meaning.value again P e (Some q)))
+  core_item tick e q = one_tick tick >> full_expression again P (core_settled P.classes q (meaning.value again P e (Some q)))
 
   -- those that are left out
   abbrev core_left : SourceType → Core → Place → ℕ → ℕ → Act (Unit {0})
@@ -247,12 +247,12 @@ module _ (again : calling.Again) (again' : running.Again) (P : Program) (bodies 
       let e0 : Frame = record s.frame { temporaries = [] } in
       let s0 : State = with_frame e0 s in
       let m : Register = suc n + width e in
-      let behind : Value → Act A = λ v. settle P.classes q v >>= c in
-      pull (full_expression again P (meaning.value again P e (Some q)) s w) (settle P.classes q) c _
-      (pull (meaning.value again P e (Some q) s0 w) (closing again P s.frame.temporaries) behind _
-      (list-steps t es last arr ok row one T (record { first = k; base = suc n }) m n k q rest h s0 f w (λ v. closing again P s.frame.temporaries v >>= behind) K at (omega arith)
+      let closes : Unit {0} → Act A = λ u. closing again P s.frame.temporaries u >>= c in
+      pull (and_then (meaning.value again P e (Some q) s0 w) (on (settle P.classes q))) (closing again P s.frame.temporaries) c _
+      (pull (meaning.value again P e (Some q) s0 w) (settle P.classes q) closes _
+      (list-steps t es last arr ok row one T (record { first = k; base = suc n }) m n k q rest h s0 f w (λ v. settle P.classes q v >>= closes) K at (omega arith)
       (ready-emptied k s.frame f ready) room refl (intact-framed T q.object s e0 stands) lies (λ t1 h1 g w1 same kept below stands1.
-      subst (λ x. Follows S (and_then x (on behind)) (runs_on again' G rest h1 K (with_frame g t1) w1)) (sym (closed again P s.frame t1 w1 Built same))
+      subst (λ x. Follows S (and_then x (on c)) (runs_on again' G rest h1 K (with_frame g t1) w1)) (sym (closed again P s.frame t1 w1 tt same))
       (next (with_frame s.frame t1) h1 g w1 refl kept (λ j lt. below j (omega arith)) (intact-framed T q.object t1 s.frame stands1)))))
 
   mutual

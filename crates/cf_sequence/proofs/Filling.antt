@@ -3,7 +3,7 @@ use Rattle.std.proofs.Common.{◌≡◌, ℕ, suc, Bool, true, false, ◌&&◌, 
 use Rattle.std.specs.Prelude.{pos, Some, Option}
 use Rattle.std.proofs.lemmas.Bool.Decides.{nat_tests}
 use Rattle.cf_base.proofs.Tests.{both}
-use Rattle.cf_base.specs.declared.kind.Kind.TheVariants.{Char}
+use Rattle.cf_base.specs.declared.kind.Kind.{Kind}
 use Rattle.cf_base.specs.Integers.{convert as converted}
 use Rattle.cf_base.specs.World.{World, Went, and_then}
 use Rattle.cf_core.specs.Types.{SourceType, is_array}
@@ -15,7 +15,7 @@ use Rattle.cf_core.specs.Places.{Place, inner, type_at}
 use Rattle.cf_core.specs.Store.{Value, Nothing, Built, Number, At, Object, zero_of, hold, hold_all}
 use Rattle.cf_core.specs.Run.{State, Frame, Gives, Malformed, Act, ◌>>=◌, ◌>>◌, gives, malformed, some_or, valid, with_object, with_frame}
 use Rattle.cf_core.specs.Access.{used, place_of, place_type, fill_zeros}
-use Rattle.cf_core.specs.Objects.{settle, write_bytes, element_count}
+use Rattle.cf_core.specs.Objects.{settle, character_kind, write_bytes, element_count}
 use Rattle.cf_core.specs.Calls as calling
 use Rattle.cf_core.specs.Calls.{Program}
 use Rattle.cf_plain.specs.Plain.{Register, Action, Plains, act, more}
@@ -77,32 +77,32 @@ started-is cs t e ok n k rest = never ok
 -- ---- the objects then
 
 -- the bytes of a literal from one on
-abbrev written : Place → ℕ → List ℕ → State → State
-written p i [] s = s
-written p i (b ∷ rest) s = written p (suc i) rest (with_object p.object (hold (inner (item i) p).route (Some (Number (converted Char (pos b))))) s)
+abbrev written : Kind → Place → ℕ → List ℕ → State → State
+written k p i [] s = s
+written k p i (b ∷ rest) s = written k p (suc i) rest (with_object p.object (hold (inner (item i) p).route (Some (Number (converted k (pos b))))) s)
 
-written-run : (p : Place) (i : ℕ) (bytes : List ℕ) (s : State) (w : World) → write_bytes p i bytes s w ≡ Went (Gives tt (written p i bytes s)) w
-written-run p i [] s w = refl
-written-run p i (b ∷ rest) s w = written-run p (suc i) rest (with_object p.object (hold (inner (item i) p).route (Some (Number (converted Char (pos b))))) s) w
+written-run : (k : Kind) (p : Place) (i : ℕ) (bytes : List ℕ) (s : State) (w : World) → write_bytes k p i bytes s w ≡ Went (Gives tt (written k p i bytes s)) w
+written-run k p i [] s w = refl
+written-run k p i (b ∷ rest) s w = written-run k p (suc i) rest (with_object p.object (hold (inner (item i) p).route (Some (Number (converted k (pos b))))) s) w
 
-written-framed : (p : Place) (i : ℕ) (bytes : List ℕ) (s : State) (f : Frame) → written p i bytes (with_frame f s) ≡ with_frame f (written p i bytes s)
-written-framed p i [] s f = refl
-written-framed p i (b ∷ rest) s f = written-framed p (suc i) rest (with_object p.object (hold (inner (item i) p).route (Some (Number (converted Char (pos b))))) s) f
+written-framed : (k : Kind) (p : Place) (i : ℕ) (bytes : List ℕ) (s : State) (f : Frame) → written k p i bytes (with_frame f s) ≡ with_frame f (written k p i bytes s)
+written-framed k p i [] s f = refl
+written-framed k p i (b ∷ rest) s f = written-framed k p (suc i) rest (with_object p.object (hold (inner (item i) p).route (Some (Number (converted k (pos b))))) s) f
 
-written-frame : (p : Place) (i : ℕ) (bytes : List ℕ) (s : State) → (written p i bytes s).frame ≡ s.frame
-written-frame p i [] s = refl
-written-frame p i (b ∷ rest) s = written-frame p (suc i) rest (with_object p.object (hold (inner (item i) p).route (Some (Number (converted Char (pos b))))) s)
+written-frame : (k : Kind) (p : Place) (i : ℕ) (bytes : List ℕ) (s : State) → (written k p i bytes s).frame ≡ s.frame
+written-frame k p i [] s = refl
+written-frame k p i (b ∷ rest) s = written-frame k p (suc i) rest (with_object p.object (hold (inner (item i) p).route (Some (Number (converted k (pos b))))) s)
 
 abbrev pub zeroed : List Class → Place → State → State
 zeroed cs p s = with_object p.object (hold_all p.route (λ r. Some (zero_of (type_at cs (s.object p.object).type (r ++ p.route))))) s
 
 abbrev pub filled : List Class → Core → Place → State → State
-filled cs (core.string bytes) p s = written p 0 bytes (zeroed cs p s)
+filled cs (core.string bytes) p s = written (character_kind (place_type cs s p)) p 0 bytes (zeroed cs p s)
 filled cs e p s = zeroed cs p s
 
 pub filled-frame : (cs : List Class) (e : Core) → is_filling e ≡ true → (p : Place) (s : State) → (filled cs e p s).frame ≡ s.frame
 filled-frame cs core.zeros ok p s = refl
-filled-frame cs (core.string bytes) ok p s = written-frame p 0 bytes (zeroed cs p s)
+filled-frame cs (core.string bytes) ok p s = written-frame (character_kind (place_type cs s p)) p 0 bytes (zeroed cs p s)
 filled-frame cs e ok p s = never ok
 
 -- each object has the type that it had
@@ -120,12 +120,12 @@ typed-at o q x objects e false is = refl
 held-types : (o : ℕ) (f : Object → Object) → ((x : Object) → (f x).type ≡ x.type) → (s : State) → TypesKept s (with_object o f s)
 held-types o f same s = record { next = refl; types = λ i. typed-at i o (f (s.object o)) s.object (same (s.object o)) (i == o) refl }
 
-written-types : (p : Place) (i : ℕ) (bytes : List ℕ) (s : State) → TypesKept s (written p i bytes s)
-written-types p i [] s = record { next = refl; types = λ o. refl }
-written-types p i (b ∷ rest) s =
-    let v : Option Value = Some (Number (converted Char (pos b))) in
+written-types : (k : Kind) (p : Place) (i : ℕ) (bytes : List ℕ) (s : State) → TypesKept s (written k p i bytes s)
+written-types k p i [] s = record { next = refl; types = λ o. refl }
+written-types k p i (b ∷ rest) s =
+    let v : Option Value = Some (Number (converted k (pos b))) in
     let t : State = with_object p.object (hold (inner (item i) p).route v) s in
-    same-then s t (written p (suc i) rest t) (held-types p.object (hold (inner (item i) p).route v) (λ x. refl) s) (written-types p (suc i) rest t)
+    same-then s t (written k p (suc i) rest t) (held-types p.object (hold (inner (item i) p).route v) (λ x. refl) s) (written-types k p (suc i) rest t)
 
 zeroed-types : (cs : List Class) (p : Place) (s : State) → TypesKept s (zeroed cs p s)
 zeroed-types cs p s =
@@ -133,7 +133,9 @@ zeroed-types cs p s =
 
 pub filled-types : (cs : List Class) (e : Core) → is_filling e ≡ true → (p : Place) (s : State) → TypesKept s (filled cs e p s)
 filled-types cs core.zeros ok p s = zeroed-types cs p s
-filled-types cs (core.string bytes) ok p s = same-then s (zeroed cs p s) (written p 0 bytes (zeroed cs p s)) (zeroed-types cs p s) (written-types p 0 bytes (zeroed cs p s))
+filled-types cs (core.string bytes) ok p s =
+    let k : Kind = character_kind (place_type cs s p) in
+    same-then s (zeroed cs p s) (written k p 0 bytes (zeroed cs p s)) (zeroed-types cs p s) (written-types k p 0 bytes (zeroed cs p s))
 filled-types cs e ok p s = never ok
 
 -- ---- both runs
@@ -155,30 +157,30 @@ module _ (again : calling.Again) (again' : running.Again) (P : Program) where
   at-place go o p e t w = ap (λ o. (((some_or o malformed >>= used) >>= place_of) >>= go) t w) e
 
   -- the characters of a literal, once the object is known to have room
-  abbrev core_text : Bool → Place → List ℕ → Act Value
-  core_text b p bytes = valid b >> (fill_zeros P.classes p >> (write_bytes p 0 bytes >> gives Built))
+  abbrev core_text : Kind → Bool → Place → List ℕ → Act Value
+  core_text k b p bytes = valid b >> (fill_zeros P.classes p >> (write_bytes k p 0 bytes >> gives Built))
 
-  abbrev plain_text : Bool → Bool → Place → List ℕ → Act Value
-  plain_text a b p bytes = valid a >> (valid b >> (fill_zeros P.classes p >> (write_bytes p 0 bytes >>= (λ u. gives Nothing))))
+  abbrev plain_text : Kind → Bool → Bool → Place → List ℕ → Act Value
+  plain_text k a b p bytes = valid a >> (valid b >> (fill_zeros P.classes p >> (write_bytes k p 0 bytes >>= (λ u. gives Nothing))))
 
-  core-text : (p q : Place) (bytes : List ℕ) (s : State) (w : World)
-      → and_then (and_then (core_text true p bytes (with_frame (record s.frame { temporaries = [] }) s) w) (on (closing again P s.frame.temporaries))) (on (settle P.classes q))
-      ≡ Went (Gives tt (written p 0 bytes (zeroed P.classes p s))) w
-  core-text p q bytes s w =
+  core-text : (k : Kind) (p q : Place) (bytes : List ℕ) (s : State) (w : World)
+      → and_then (and_then (core_text k true p bytes (with_frame (record s.frame { temporaries = [] }) s) w) (on (settle P.classes q))) (on (closing again P s.frame.temporaries))
+      ≡ Went (Gives tt (written k p 0 bytes (zeroed P.classes p s))) w
+  core-text k p q bytes s w =
       let e0 : Frame = record s.frame { temporaries = [] } in
       let z : State = zeroed P.classes p s in
-      let u : State = written p 0 bytes (with_frame e0 z) in
-      ap (λ r. and_then (and_then (and_then r (on (λ u. gives Built))) (on (closing again P s.frame.temporaries))) (on (settle P.classes q))) (written-run p 0 bytes (with_frame e0 z) w)
-      ∙ ap (λ r. and_then r (on (settle P.classes q))) (closed again P s.frame u w Built (written-frame p 0 bytes (with_frame e0 z)))
-      ∙ ap (λ t. Went (Gives tt (with_frame s.frame t)) w) (written-framed p 0 bytes z e0)
-      ∙ ap (λ f. Went (Gives tt (with_frame f (written p 0 bytes z))) w) (sym (written-frame p 0 bytes z))
+      let u : State = written k p 0 bytes (with_frame e0 z) in
+      ap (λ r. and_then (and_then (and_then r (on (λ u. gives Built))) (on (settle P.classes q))) (on (closing again P s.frame.temporaries))) (written-run k p 0 bytes (with_frame e0 z) w)
+      ∙ closed again P s.frame u w tt (written-frame k p 0 bytes (with_frame e0 z))
+      ∙ ap (λ t. Went (Gives tt (with_frame s.frame t)) w) (written-framed k p 0 bytes z e0)
+      ∙ ap (λ f. Went (Gives tt (with_frame f (written k p 0 bytes z))) w) (sym (written-frame k p 0 bytes z))
 
-  plain-text : (p : Place) (bytes : List ℕ) (s : State) (f : Frame) (w : World)
-      → plain_text true true p bytes (with_frame f s) w ≡ Went (Gives Nothing (with_frame f (written p 0 bytes (zeroed P.classes p s)))) w
-  plain-text p bytes s f w =
+  plain-text : (k : Kind) (p : Place) (bytes : List ℕ) (s : State) (f : Frame) (w : World)
+      → plain_text k true true p bytes (with_frame f s) w ≡ Went (Gives Nothing (with_frame f (written k p 0 bytes (zeroed P.classes p s)))) w
+  plain-text k p bytes s f w =
       let z : State = zeroed P.classes p s in
-      ap (λ r. and_then r (on (λ u. gives Nothing))) (written-run p 0 bytes (with_frame f z) w)
-      ∙ ap (λ t. Went (Gives Nothing t) w) (written-framed p 0 bytes z f)
+      ap (λ r. and_then r (on (λ u. gives Nothing))) (written-run k p 0 bytes (with_frame f z) w)
+      ∙ ap (λ t. Went (Gives Nothing t) w) (written-framed k p 0 bytes z f)
 
   text-fills : (p : Place) (bytes : List ℕ) (s : State) (w : World) (b : Bool) → is_array (place_type P.classes s p) && nat_le (length bytes) (element_count P.classes (place_type P.classes s p)) ≡ b
       → Fills (core.string bytes) p s w
@@ -187,14 +189,14 @@ module _ (again : calling.Again) (again' : running.Again) (P : Program) where
       let s0 : State = with_frame (record s.frame { temporaries = [] }) s in
       let parts = both (is_array t) (nat_le (length bytes) (element_count P.classes t)) e in
       both_fill
-      (ap (λ b. and_then (and_then (core_text b p bytes s0 w) (on (closing again P s.frame.temporaries))) (on (settle P.classes p))) e ∙ core-text p p bytes s w)
+      (ap (λ b. and_then (and_then (core_text k b p bytes s0 w) (on (settle P.classes p))) (on (closing again P s.frame.temporaries))) e ∙ core-text k p p bytes s w)
       (λ h n f at.
-      at-place (λ p. λ s w. plain_text (is_array (place_type P.classes s p)) (nat_le (length bytes) (element_count P.classes (place_type P.classes s p))) p bytes s w) (h n) p at (with_frame f s) w
-      ∙ ap (λ b. plain_text b (nat_le (length bytes) (element_count P.classes t)) p bytes (with_frame f s) w) parts.0
-      ∙ ap (λ b. plain_text true b p bytes (with_frame f s) w) parts.1 ∙ plain-text p bytes s f w)
+      at-place (λ p. λ s w. plain_text (character_kind (place_type P.classes s p)) (is_array (place_type P.classes s p)) (nat_le (length bytes) (element_count P.classes (place_type P.classes s p))) p bytes s w) (h n) p at (with_frame f s) w
+      ∙ ap (λ b. plain_text k b (nat_le (length bytes) (element_count P.classes t)) p bytes (with_frame f s) w) parts.0
+      ∙ ap (λ b. plain_text k true b p bytes (with_frame f s) w) parts.1 ∙ plain-text k p bytes s f w)
   text-fills p bytes s w false e =
       let s0 : State = with_frame (record s.frame { temporaries = [] }) s in
-      malformed_there (ap (λ b. and_then (and_then (core_text b p bytes s0 w) (on (closing again P s.frame.temporaries))) (on (settle P.classes p))) e)
+      malformed_there (ap (λ b. and_then (and_then (core_text (character_kind (place_type P.classes s p)) b p bytes s0 w) (on (settle P.classes p))) (on (closing again P s.frame.temporaries))) e)
 
   pub fills : (e : Core) → is_filling e ≡ true → (p : Place) (s : State) (w : World) → Fills e p s w
   fills core.zeros ok p s w =

@@ -1,17 +1,18 @@
 -- Full expressions: the flags of their temporaries in branches are cleared before, and their temporaries end behind, on both sides in the same order.
-use Rattle.std.proofs.Common.{◌≡◌, inl, ℕ, suc, ◌+◌, ◌≤◌, ◌<◌, Bool, true, false, List, [], ◌∷◌, append-nil, refl, sym, ◌∙◌, ap, subst, arith, reverse}
+use Rattle.std.proofs.Common.{◌≡◌, inl, ℕ, suc, ◌+◌, ◌≤◌, ◌<◌, Bool, true, false, if◌then◌else◌, List, [], ◌∷◌, append-nil, refl, sym, ◌∙◌, ap, subst, arith, reverse}
 use Rattle.std.specs.Prelude.{pos, Option, Some, None}
 use Rattle.cf_base.specs.World.{World, Ran, Went, and_then}
-use Rattle.cf_core.specs.Types.{Name}
+use Rattle.cf_core.specs.Types.{Name, SourceType}
 use Rattle.cf_core.specs.Core as core
 use Rattle.cf_core.specs.Core.{Core, Function, local_temporary}
 use Rattle.cf_core.specs.Places.{Place}
-use Rattle.cf_core.specs.Store.{Value, Number}
+use Rattle.cf_core.specs.Store.{Value, Number, At}
 use Rattle.cf_core.specs.Run.{State, Frame, Did, Gives, Act, ◌>>=◌, ◌>>◌, gives, state, for_all, frame_changed, with_frame}
 use Rattle.cf_core.specs.Joined.{is_nothing}
 use Rattle.cf_core.specs.Pointers.{truth_value}
 use Rattle.cf_core.specs.Scalars.{truth_of}
 use Rattle.cf_core.specs.Access.{used}
+use Rattle.cf_core.specs.Objects.{settle}
 use Rattle.cf_core.specs.Calls as calling
 use Rattle.cf_core.specs.Calls.{Program, function_named, end_object, full_expression}
 use Rattle.cf_core.specs.Expressions as meaning
@@ -23,8 +24,8 @@ use Rattle.cf_plain.specs.Running.{Flow, keep, falling, all}
 use Rattle.cf_sequence.specs.Follows.{Follows}
 use Rattle.cf_sequence.specs.Built.{is_value, is_chain}
 use Rattle.cf_sequence.specs.Made.{Temporary, temporaries, width, held_by}
-use Rattle.cf_sequence.specs.Expressions.{Full, flag, Destination, value, whole, flags, ended, finished, used as use_of}
-use Rattle.cf_sequence.specs.Statements.{condition}
+use Rattle.cf_sequence.specs.Expressions.{Full, flag, Destination, destination, settled, value, whole, flags, ended, finished, used as use_of}
+use Rattle.cf_sequence.specs.Statements.{condition, started}
 use Rattle.cf_sequence.proofs.Following.{on, pull}
 use Rattle.cf_sequence.proofs.Calling.{Bodies, never}
 use Rattle.cf_sequence.proofs.Kept.{Kept, Ready, Valued, keep-same, keep-other, keep-again}
@@ -33,6 +34,7 @@ use Rattle.cf_sequence.proofs.Placing.{placing}
 use Rattle.cf_sequence.proofs.Moving.{all_gone, gone-same, ends-all, finished-steps}
 use Rattle.cf_sequence.proofs.PlainSteps.{Usable, runs_on, set-steps, use-steps, truth-steps, branch-steps}
 use Rattle.cf_sequence.proofs.Operands.{H}
+use Rattle.cf_sequence.proofs.Parts.{first-steps, value-gives}
 use Rattle.cf_sequence.proofs.Evaluating.{follow-value}
 
 -- the register of the temporary's place, which is that of the reference's initialiser
@@ -230,3 +232,29 @@ module _ (again : calling.Again) (again' : running.Again) (P : Program) (bodies 
       use-steps again' (H again again' P) n v h1 done.value (λ v. closing again P s.frame.temporaries v >>= c) last K t (with_frame f1 t) w1 (λ usable.
       closing-steps x ts done.grown.made s.frame t h1 f1 w1 v c (rest n) K done.grown.frame done.grown.listed (λ u same.
       next v u h1 f1 w1 usable done.value same done.kept))))))
+
+  -- an initialiser of the place in a register: its value is stored before its temporaries end
+  pub settled-steps : (e : Core) → is_value e ≡ true → (u : SourceType) (n : Register) (k : ℕ) (q : Place) (rest : Plains) (g : Registers) (s : State) (f : Frame) (w : World)
+      (c : Unit {0} → Act A) (K : Flow → Act B)
+      → g n ≡ Some (At q) → Ready k s.frame f → k + width e ≤ f.count
+      → ((t : State) (h : Registers) (f1 : Frame) (w : World) → t.frame ≡ s.frame → Kept k f f1 → ((j : ℕ) → j < suc n → h j ≡ g j)
+      → Follows S (c tt t w) (runs_on again' (H again again' P) rest h K (with_frame f1 t) w))
+      → Follows S (and_then (full_expression again P (meaning.value again P e (Some q) >>= settle P.classes q) s w) (on c))
+      (runs_on again' (H again again' P) (started P.classes u e n k rest) g K (with_frame f s) w)
+  settled-steps e ok u n k q rest g s f w c K at ready room next =
+      let s0 : State = with_frame (record s.frame { temporaries = [] }) s in
+      let x : Full = record { first = k; base = suc n } in
+      let m : Register = suc n + width e in
+      let ts : List Temporary = temporaries false e k in
+      let last : Plains = ended x (reverse ts) rest in
+      let closes : Unit {0} → Act A = λ u. closing again P s.frame.temporaries u >>= c in
+      pull (and_then (meaning.value again P e (Some q) s0 w) (on (settle P.classes q))) (closing again P s.frame.temporaries) c _
+      (pull (meaning.value again P e (Some q) s0 w) (settle P.classes q) closes _
+      (flags-steps again' (H again again' P) A B S x (value P.classes x e (destination n u) m k (settled e n m last)) K _ (with_frame f s0) w ts g (λ h cleared.
+      follow-value again again' P bodies chains A B S e ok false (Some q) (destination n u) x m k (settled e n m last) h s0 f w (λ v. settle P.classes q v >>= closes) K
+      (begins-whole e ok (suc n) k g h s.frame f [] ready room cleared) (λ v t h1 f1 w1 done.
+      let below : (j : ℕ) → j < suc n → h1 j ≡ g j = λ j lt. done.grown.below j (omega arith) (inl (omega arith)) ∙ cleared.below j lt in
+      subst (λ b. Follows S (and_then (settle P.classes q v t w1) (on closes))
+      (runs_on again' (H again again' P) (if b then last else more (act (plain.first n m)) last) h1 K (with_frame f1 t) w1)) (sym (value-gives again again' P bodies chains A B S e ok))
+      (first-steps again again' P bodies chains A B S n m q v h1 last closes K t f1 w1 (below n (omega arith) ∙ at) done.value (λ t1 same.
+      closing-steps x ts done.grown.made s.frame t1 h1 f1 w1 tt c rest K (same ∙ done.grown.frame) done.grown.listed (λ t2 same2. next t2 h1 f1 w1 same2 done.kept below)))))))

@@ -7,19 +7,18 @@ use Rattle.std.proofs.lemmas.List.Folds.{list_all-append}
 use Rattle.cf_base.proofs.Tests.{both, all_of, same_bytes, bytes_same}
 use Rattle.cf_core.specs.Types.{Name, SourceType}
 use Rattle.cf_core.specs.Core.{Static}
-use Rattle.cf_core.specs.Places.{is_reference}
 use Rattle.cf_core.specs.Calls.{Setting}
 use Rattle.cf_core.specs.Joined as core
 use Rattle.cf_core.specs.Joined.{is_nothing}
 use Rattle.cf_plain.specs.Plain.{Plains, PlainStatic, nothing}
 use Rattle.cf_plain.specs.Program.{PlainSetting}
 use Rattle.cf_plain.specs.Joined as plain
-use Rattle.cf_sequence.specs.Built.{is_constant_element, is_built_static, is_built_setting}
-use Rattle.cf_sequence.specs.Statements.{type_of_static, initialised}
+use Rattle.cf_sequence.specs.Built.{is_constant_set, is_built_static, is_built_setting}
+use Rattle.cf_sequence.specs.Statements.{type_of_static, binds, reached, initialised}
 use Rattle.cf_sequence.specs.Sequenced.{sequenced_static}
 use Rattle.cf_sequence.proofs.Calling.{never}
 use Rattle.cf_sequence.proofs.StaticObjects.{type_found}
-use Rattle.cf_sequence.proofs.Constants.{set_as, start-is, constant-object, plain-object, constant-start, something-constant}
+use Rattle.cf_sequence.proofs.Constants.{set_as, start-is, constant-object, constant-start, something-constant}
 
 -- ---- the type of a name
 
@@ -216,7 +215,7 @@ built-grown xs zs (x ∷ ks) there ok =
     let known = both (is_among x.object xs) (set_among xs ks) there in
     let parts = both (is_built_setting xs x) (list_all (is_built_setting xs) ks) ok in
     all_of (is_built_setting (xs ++ zs) x) (list_all (is_built_setting (xs ++ zs)) ks)
-    (ap (λ t. not (is_reference t) && is_constant_element t x.start) (type-grown xs zs x.object known.0) ∙ parts.0) (built-grown xs zs ks known.1 parts.1)
+    (ap (λ t. is_constant_set t x.start) (type-grown xs zs x.object known.0) ∙ parts.0) (built-grown xs zs ks known.1 parts.1)
 
 pub among-grown : (xs zs : List Static) (ks : List Setting) → set_among xs ks ≡ true → set_among (xs ++ zs) ks ≡ true
 among-grown xs zs [] there = refl
@@ -226,7 +225,11 @@ among-grown xs zs (x ∷ ks) there =
 
 empty-is : (x : Static) (t : SourceType) (b : Bool) → plain.is_empty (if b then nothing else initialised [] t x.name x.start 0 nothing) ≡ b
 empty-is x t true = refl
-empty-is x t false = refl
+empty-is x t false = by (binds x.start) _
+  where
+    by : (b : Bool) (rest : Plains) → plain.is_empty (reached b t x.name rest) ≡ false
+    by true rest = refl
+    by false rest = refl
 
 sets-same : (ys : List Static) (x : Static) → x.is_constant ≡ true → plain.sets_constant (beside ys x) ≡ core.sets_constant x
 sets-same ys x ok =
@@ -277,7 +280,7 @@ settings-new xs ys name (w ∷ ws) ok none =
         ∙ ap (λ (us : List PlainSetting). placed all (core.constant_setting name w) ∷ us) later
     by false e later = later
 
-starts-constant : (all : List Static) (x : Static) → is_built_static all x ≡ true → core.sets_constant x ≡ true → is_constant_element (type_of_static all x.name) x.start ≡ true
+starts-constant : (all : List Static) (x : Static) → is_built_static all x ≡ true → core.sets_constant x ≡ true → is_constant_set (type_of_static all x.name) x.start ≡ true
 starts-constant all x ok sets =
     something-constant (type_of_static all x.name) x.start (constant-start all x ok) (absent-is (is_nothing x.start) (both x.is_constant (not (is_nothing x.start)) sets).1)
 
@@ -304,9 +307,7 @@ built-new xs ys name (w ∷ ws) ok none =
         → list_all (is_built_setting all) (map (core.constant_setting name) (cond b (w ∷ others) others)) ≡ true
     by true e later =
         all_of (is_built_setting all (core.constant_setting name w)) (list_all (is_built_setting all) (map (core.constant_setting name) others))
-        (ap (λ t. not (is_reference t) && is_constant_element t w.start) (type-joined xs ys w.name (absent-is (is_among w.name xs) known.0))
-        ∙ all_of (not (is_reference (type_of_static ys w.name))) (is_constant_element (type_of_static ys w.name) w.start) (plain-object ys w parts.0) (starts-constant ys w parts.0 e))
-        later
+        (ap (λ t. is_constant_set t w.start) (type-joined xs ys w.name (absent-is (is_among w.name xs) known.0)) ∙ starts-constant ys w parts.0 e) later
     by false e later = later
 
 pub among-new : (all : List Static) (name : Name) (ws : List Static) → are_among all ws ≡ true → set_among all (map (core.constant_setting name) (filter core.sets_constant ws)) ≡ true

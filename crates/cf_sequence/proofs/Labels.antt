@@ -192,8 +192,7 @@ module _ (again : running.Again) (H : Program) (P : Program) (R C : SourceType) 
       let x : Full = record { first = k; base = 1 } in
       let ts : List Temporary = temporaries false e k in
       let code : Plains → Plains = value P.classes x e (destination (suc n) u) (suc (suc n)) k in
-      let bound : Plains → Plains = λ rest. more (act (plain.first 0 n)) rest in
-      let last : Plains → Plains = λ rest. ended x (reverse ts) (bound rest) in
+      let last : Plains → Plains = λ rest. more (act (plain.first 0 n)) (ended x (reverse ts) rest) in
       let inner : Plains → Plains = λ rest. code (settled e (suc n) (suc (suc n)) (last rest)) in
       let named : Plains → Plains = λ rest. more (set n (plain.local j)) (inner rest) in
       silent-then again H (flags x ts) (λ rest. more (set (suc n) (plain.declare j u)) (named rest)) (silent-flags again H x ts)
@@ -201,7 +200,7 @@ module _ (again : running.Again) (H : Program) (P : Program) (R C : SourceType) 
       (silent-then again H (λ rest. more (set n (plain.local j)) rest) inner (silent-set again H n (plain.local j))
       (silent-then again H code (λ rest. settled e (suc n) (suc (suc n)) (last rest)) (silent-value again H P e is x (destination (suc n) u) (suc (suc n)) k)
       (silent-then again H (settled e (suc n) (suc (suc n))) last (silent-settled again H e (suc n) (suc (suc n)))
-      (silent-then again H (ended x (reverse ts)) bound (silent-ended again H x (reverse ts)) (silent-act again H (plain.first 0 n)))))))
+      (silent-then again H (λ rest. more (act (plain.first 0 n)) rest) (ended x (reverse ts)) (silent-act again H (plain.first 0 n)) (silent-ended again H x (reverse ts)))))))
   silent-held i t e k ok = never ok
 
   mutual

@@ -5,7 +5,7 @@ use Rattle.std.proofs.lemmas.Bool.Decides.{nat_tests}
 use Rattle.std.proofs.lemmas.List.{reverse-append}
 use Rattle.cf_base.specs.Event.{Enter}
 use Rattle.cf_base.specs.World.{World, Went, spend_of, deeper, show, next_of}
-use Rattle.cf_base.specs.declared.kind.Kind.TheVariants.{Char}
+use Rattle.cf_base.specs.declared.kind.Kind.{Kind}
 use Rattle.cf_base.specs.Integers.{convert as converted}
 use Rattle.cf_core.specs.Types.{Name, SourceType, result}
 use Rattle.cf_core.specs.Classes.{Class}
@@ -223,10 +223,10 @@ module _ (m : ℕ) (before : ℕ → Object) where
         keeps-at Q _ (λ s. keeps-held p.object (hold_all p.route (λ r. Some (zero_of (type_at classes (s.object p.object).type (r ++ p.route)))))
         (λ x. record { type = refl; life = refl; gone = refl }))
 
-    pub keeps-bytes : (p : Place) (i : ℕ) (b : List ℕ) → Keeps Q (write_bytes p i b)
-    keeps-bytes p i [] = keeps-gives Q tt
-    keeps-bytes p i (b ∷ rest) =
-        keeps-next Q (first_value (inner (item i) p) (Number (converted Char (pos b)))) (write_bytes p (suc i) rest) (keeps-first (inner (item i) p) _) (keeps-bytes p (suc i) rest)
+    pub keeps-bytes : (k : Kind) (p : Place) (i : ℕ) (b : List ℕ) → Keeps Q (write_bytes k p i b)
+    keeps-bytes k p i [] = keeps-gives Q tt
+    keeps-bytes k p i (b ∷ rest) =
+        keeps-next Q (first_value (inner (item i) p) (Number (converted k (pos b)))) (write_bytes k p (suc i) rest) (keeps-first (inner (item i) p) _) (keeps-bytes k p (suc i) rest)
 
     keeps-scalar : (classes : List Class) (p : Place) (v : Value) → Keeps Q (state >>= (λ s. when (is_scalar (place_type classes s p)) (used v >>= first_value p) malformed))
     keeps-scalar classes p v =

@@ -14,7 +14,7 @@ use Rattle.cf_core.specs.Run.{State, Act, ◌>>=◌, ◌>>◌, gives, state, tic
 use Rattle.cf_core.specs.Access.{place_type, used, place_of, number_of, read_place, write_place, followed, fill_zeros}
 use Rattle.cf_core.specs.Pointers.{truth_value, pointer_op, from_void_value}
 use Rattle.cf_core.specs.Scalars.{truth_of, converted_value, operated, signed, changed_value, indexed, decayed, pointed_to}
-use Rattle.cf_core.specs.Objects.{local_place, literal_object, new_local, settle, write_bytes, element_part, element_count, begin_list, end_list, count, costs_tick, one_tick, result_place, run_pointer}
+use Rattle.cf_core.specs.Objects.{local_place, literal_object, new_local, settle, character_kind, write_bytes, element_part, element_count, begin_list, end_list, count, costs_tick, one_tick, result_place, run_pointer}
 use Rattle.cf_core.specs.Calls as calling
 use Rattle.cf_core.specs.Calls.{Program, Flow, Falls, Breaks, Continues, Returns, body, turn, root, function_named, run_named, name_function, full_expression, in_scope, end_object}
 use Rattle.cf_core.specs.Expressions as meaning
@@ -213,7 +213,7 @@ module _ (again : calling.Again) (P : Program) (classless : P.classes ≡ []) (r
       let t : SourceType = place_type P.classes s p in
       keeps-next (L base) (valid (is_array t && nat_le (length bytes) (element_count P.classes t))) _ (keeps-pure (L base) _ (pure-valid _))
       (keeps-next (L base) (fill_zeros P.classes p) _ (keeps-zeros m before base P.classes p)
-      (keeps-next (L base) (write_bytes p 0 bytes) (gives Built) (keeps-bytes m before base p 0 bytes) (keeps-gives (L base) Built))))
+      (keeps-next (L base) (write_bytes (character_kind t) p 0 bytes) (gives Built) (keeps-bytes m before base (character_kind t) p 0 bytes) (keeps-gives (L base) Built))))
   filling-keeps base e ok p = never ok
 
   pub initial-keeps : (base : List ℕ) (e : Core) → is_initial e ≡ true → (p : Place) → Keeps (L base) (meaning.value again P e (Some p))
@@ -230,10 +230,10 @@ module _ (again : calling.Again) (P : Program) (classless : P.classes ≡ []) (r
 
   -- an initialiser of a place, as a full expression of its own
   pub settled-keeps : (base : List ℕ) (e : Core) (p : Place) → Keeps (L base) (meaning.value again P e (Some p))
-      → Keeps (L base) (full_expression again P (meaning.value again P e (Some p)) >>= settle P.classes p)
+      → Keeps (L base) (full_expression again P (meaning.value again P e (Some p) >>= settle P.classes p))
   settled-keeps base e p k =
-      keeps-then (L base) (full_expression again P (meaning.value again P e (Some p))) (settle P.classes p) (keeps-full m before base again P classless (meaning.value again P e (Some p)) k)
-      (keeps-settle m before base P.classes p)
+      keeps-full m before base again P classless (meaning.value again P e (Some p) >>= settle P.classes p)
+      (keeps-then (L base) (meaning.value again P e (Some p)) (settle P.classes p) k (keeps-settle m before base P.classes p))
 
   -- ---- lists
 
@@ -243,7 +243,7 @@ module _ (again : calling.Again) (P : Program) (classless : P.classes ≡ []) (r
 
   -- one element, by itself
   pub item-keeps : (base : List ℕ) (tick_first : Bool) (e : Core) (q : Place) → Keeps (L base) (meaning.value again P e (Some q))
-      → Keeps (L base) (one_tick tick_first >> (full_expression again P (meaning.value again P e (Some q)) >>= settle P.classes q))
+      → Keeps (L base) (one_tick tick_first >> full_expression again P (meaning.value again P e (Some q) >>= settle P.classes q))
   item-keeps base tick_first e q k =
       keeps-next (L base) (one_tick tick_first) _ (keeps-when (L base) tick_first tick done (keeps-tick (L base)) (keeps-gives (L base) tt)) (settled-keeps base e q k)
 
@@ -330,11 +330,11 @@ module _ (again : calling.Again) (P : Program) (classless : P.classes ≡ []) (r
     where
       by : (o : Option Place) → Keeps (L base) (elim o as (λ _. Act Value) [
         | None ↦ full_expression again P (meaning.value again P e None >>= used)
-        | Some p ↦ (full_expression again P (meaning.value again P e (Some p)) >>= settle P.classes p) >> gives Built
+        | Some p ↦ full_expression again P (meaning.value again P e (Some p) >>= settle P.classes p) >> gives Built
       ])
       by None = used-full base e ok
       by (Some p) =
-          keeps-next (L base) (full_expression again P (meaning.value again P e (Some p)) >>= settle P.classes p) (gives Built)
+          keeps-next (L base) (full_expression again P (meaning.value again P e (Some p) >>= settle P.classes p)) (gives Built)
           (settled-keeps base e p (value-keeps base e ok (Some p))) (keeps-gives (L base) Built)
 
   mutual

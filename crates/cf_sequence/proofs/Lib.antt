@@ -40,6 +40,7 @@ pub mod SameTypes
 pub mod Constants
 pub mod Settings
 pub mod LastingStatics
+pub mod StaticReferences
 pub mod SameStatics
 pub mod JoinedObjects
 pub mod Renamed
@@ -53,3 +54,4 @@ pub mod Temporaries
 pub mod Whole
 mod ScalarRows
 mod StaticListRows
+mod StaticReferenceRows

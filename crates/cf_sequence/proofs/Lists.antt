@@ -1,6 +1,6 @@
 -- Lists as initialisers of arrays: the place of each element, and then its own initialiser (8.4.1).
 use Rattle.std.proofs.Common.{◌≡◌, ℕ, zero, suc, ◌+◌, ◌-◌, ◌≤◌, ◌<◌, Bool, true, false, not, ◌&&◌, ◌||◌, nat_le, nat_lt, if◌then◌else◌, List, [], ◌∷◌, length, refl, sym, ◌∙◌, ap, subst, arith}
-use Rattle.std.specs.Prelude.{pos, Option, Some, None}
+use Rattle.std.specs.Prelude.{pos, Some, None}
 use Rattle.std.proofs.lemmas.Bool.Decides.{nat_tests}
 use Rattle.cf_base.proofs.Tests.{both}
 use Rattle.cf_base.specs.World.{World, Ran, Went, Stops, and_then}
@@ -10,17 +10,15 @@ use Rattle.cf_core.specs.Core as core
 use Rattle.cf_core.specs.Core.{Core, Cores, Function, none, item}
 use Rattle.cf_core.specs.Joined.{is_nothing}
 use Rattle.cf_core.specs.Nodes.{nodes, nodes_all}
-use Rattle.cf_core.specs.Places.{Route, Place, inner, bound, type_at, is_inside, class_of}
-use Rattle.cf_core.specs.Classes.{class_named, is_built_in}
-use Rattle.cf_core.specs.Store.{Value, Number, At, Life, unbuilt, alive, Object, is_base_part, is_dead_life, life_in, life_at, first_life, is_dead}
+use Rattle.cf_core.specs.Places.{Place, inner, bound, type_at, is_inside}
+use Rattle.cf_core.specs.Store.{Value, Number, At}
 use Rattle.cf_core.specs.Run.{State, Frame, Did, Gives, Exits, Malformed, Act, ◌>>=◌, ◌>>◌, gives, malformed, need, valid, some_or, with_frame, not_alive, outside_array}
 use Rattle.cf_core.specs.Access.{place_type, used, name_part}
 use Rattle.cf_core.specs.Pointers.{element_of, route_of, up_to, moved_place}
 use Rattle.cf_core.specs.Scalars.{indexed, decayed}
-use Rattle.cf_core.specs.Objects.{settle, element_part, element_count, count, costs_tick, any_costs}
+use Rattle.cf_core.specs.Objects.{element_part, element_count, count, costs_tick, any_costs}
 use Rattle.cf_core.specs.Calls as calling
-use Rattle.cf_core.specs.Calls.{Program, function_named, full_expression}
-use Rattle.cf_core.specs.Expressions as meaning
+use Rattle.cf_core.specs.Calls.{Program, function_named}
 use Rattle.cf_plain.specs.Plain.{Register, Plains, act, set, leave, nothing, more}
 use Rattle.cf_plain.specs.Plain as plain
 use Rattle.cf_plain.specs.Acts.{Registers}
@@ -36,10 +34,9 @@ use Rattle.cf_sequence.proofs.Calling.{Bodies, never, or-else}
 use Rattle.cf_sequence.proofs.Kept.{Kept, kept-all, Ready, added-two, keep-same, keep-other}
 use Rattle.cf_sequence.proofs.PlainSteps.{runs_on, set-steps, at-one, at-two}
 use Rattle.cf_sequence.proofs.Operands.{H}
-use Rattle.cf_sequence.proofs.Parts.{first-steps, value-gives}
 use Rattle.cf_sequence.proofs.Silent.{all-append, Silent, silent-none, silent-set, silent-act, silent-loop, silent-then, silent-settled, silent-whole, silent-by}
 use Rattle.cf_sequence.proofs.Filling.{filling-initial, fill, started-is, filled-steps}
-use Rattle.cf_sequence.proofs.Fulls.{nothing-is, full-steps}
+use Rattle.cf_sequence.proofs.Fulls.{nothing-is, settled-steps}
 use Rattle.cf_sequence.proofs.Standing.{settled_full}
 use Rattle.cf_sequence.proofs.Lasting.{Keeps, Newer, Lasting}
 use Rattle.cf_sequence.proofs.LastingCode.{Rests, initial-keeps, settled-keeps}
@@ -138,28 +135,6 @@ still-intact T o s t base i l =
       stands = same.gone ∙ i.stands;
     }
 
-two-false : (a b : Bool) → a ≡ false → b ≡ false → a || b ≡ false
-two-false true b p q = p
-two-false false b p q = q
-
-and-false : (a b : Bool) → b ≡ false → a && b ≡ false
-and-false true b q = q
-and-false false b q = refl
-
-no-end : (b : Bool) → is_dead_life (if b then unbuilt else alive) ≡ false
-no-end true = refl
-no-end false = refl
-
-living : (cs : List Class) (x : Object) (π : Route) → x.life ≡ (λ ρ. None) → is_dead_life (life_at cs x π) ≡ false
-living cs x π no_life =
-    ap (λ (f : Route → Option Life). is_dead_life (life_in (f π) (first_life cs (type_at cs x.type π)))) no_life ∙ no-end (is_built_in (class_named cs (class_of (type_at cs x.type π))))
-
-not-dead : (cs : List Class) (x : Object) → x.life ≡ (λ ρ. None) → x.is_gone ≡ false → (π : Route) → is_dead cs x π ≡ false
-not-dead cs x no_life stands [] = two-false x.is_gone (is_dead_life (life_at cs x [])) stands (living cs x [] no_life)
-not-dead cs x no_life stands (s ∷ π) =
-    two-false (not (is_base_part s) && is_dead_life (life_at cs x (s ∷ π))) (is_dead cs x π)
-    (and-false (not (is_base_part s)) (is_dead_life (life_at cs x (s ∷ π))) (living cs x (s ∷ π) no_life)) (not-dead cs x no_life stands π)
-
 -- the place of an element
 pub element-lies : (cs : List Class) (T t : SourceType) (p : Place) → is_array t ≡ true → Lies cs T t p → (i : ℕ) → nat_lt i (bound t) ≡ true → Lies cs T (element (unqualified t)) (inner (item i) p)
 element-lies cs T t p ok lies i lt = record {
@@ -177,7 +152,7 @@ decay-there cs p s w arr inside =
 none-before : (i : ℕ) → 0 + i ≡ i
 none-before i = omega arith
 
-move-there : (cs : List Class) (p : Place) (i : ℕ) (s : State) (w : World) → is_dead cs (s.object p.object) (item 0 ∷ p.route) ≡ false
+move-there : (cs : List Class) (p : Place) (i : ℕ) (s : State) (w : World) → (s.object p.object).is_gone ≡ false
     → nat_le i (bound (type_at cs (s.object p.object).type p.route)) ≡ true
     → moved_place cs (inner (item 0) p) (pos i) s w ≡ Went (Gives (At (inner (item i) p)) s) w
 move-there cs p i s w stands within =
@@ -210,7 +185,7 @@ silent-initial again H P t e ok n k =
     (λ fills. silent-by again H (started P.classes t e n k) (λ rest. more (act (fill e n)) rest) (started-is P.classes t e fills n k) (silent-act again H (fill e n)))
     (λ starts. or-else (is_nothing e) (is_value e) starts
     (λ blank. silent-by again H (started P.classes t e n k) (λ rest. rest) (λ rest. ap (λ e. started P.classes t e n k rest) (nothing-is e blank)) (silent-none again H))
-    (λ is. silent-whole again H P e is (suc n) k (destination n t) (λ m rest. rest) (λ m rest. settled e n m rest) (λ m. silent-none again H) (λ m. silent-settled again H e n m)))
+    (λ is. silent-whole again H P e is (suc n) k (destination n t) (λ m rest. settled e n m rest) (λ m rest. rest) (λ m. silent-settled again H e n m) (λ m. silent-none again H)))
 
 -- lists have no label either
 module _ (again : running.Again) (H : Program) (P : Program) where
@@ -295,12 +270,7 @@ module _ (again : calling.Again) (again' : running.Again) (P : Program) (bodies 
       (λ blank. subst (λ e. Follows S (and_then (settled_full again P q e s w) (on c)) (runs_on again' (H again again' P) (started P.classes u e n k rest) h K (with_frame f s) w)) (sym (nothing-is e blank))
       (next s h f w refl (kept-all k f) (λ j lt. refl)))
       (λ is.
-      pull (full_expression again P (meaning.value again P e (Some q)) s w) (settle P.classes q) c _
-      (full-steps again again' P bodies chains classless A B S e is (Some q) (destination n u) (suc n) k (λ m. settled e n m rest) h s f w (λ v. settle P.classes q v >>= c) K ready room (λ v t h1 f1 w1 done.
-      subst (λ b. Follows S (and_then (settle P.classes q v t w1) (on c))
-      (runs_on again' (H again again' P) (if b then rest else more (act (plain.first n (suc n + width e))) rest) h1 K (with_frame f1 t) w1)) (sym (value-gives again again' P bodies chains A B S e is))
-      (first-steps again again' P bodies chains A B S n (suc n + width e) q v h1 rest c K t f1 w1
-      (done.below n (omega arith) ∙ at) done.value (λ t1 same. next t1 h1 f1 w1 (same ∙ done.frame) done.kept done.below))))))
+      settled-steps again again' P bodies chains classless A B S e is u n k q rest h s f w c K at ready room next))
 
 -- it has run on both sides
 record Ran_on (s : State) (f : Frame) (n : Register) (k : ℕ) (h : Registers) (u : Unit {0}) (t : State) (flow : Flow) (z : State) : Type 0 where
@@ -392,7 +362,7 @@ module _ (again : calling.Again) (again' : running.Again) (P : Program) (bodies 
       (at-two again' Hp (λ o q. (some_or o malformed >>= used) >>= (λ a. (some_or q malformed >>= used) >>= (λ b. indexed P.classes a b))) (h2 n) (h2 (suc n)) v0 v1 at-n (keep-same (suc n) h1 v1)
       (λ v. λ t w. runs_on again' Hp rest (keep h2 n v) K t w) x u w
       (subst (λ z. Follows S x (and_then z (on (λ v. λ t w. runs_on again' Hp rest (keep h2 n v) K t w))))
-      (sym (move-there P.classes p i u w (not-dead P.classes (s.object p.object) stands.life stands.stands (item 0 ∷ p.route)) within))
+      (sym (move-there P.classes p i u w stands.stands within))
       (next h3 (keep-same n h2 v2)
       (λ j less. keep-other n j h2 v2 (λ z. omega arith) ∙ keep-other (suc n) j h1 v1 (λ z. omega arith) ∙ keep-other n j h v0 (λ z. omega arith))))))))))
     where

@@ -10,7 +10,6 @@ use Rattle.std.proofs.lemmas.List.{append_cancel_right}
 use Rattle.cf_base.proofs.Tests.{both, all_of, same_bytes, bytes_same}
 use Rattle.cf_core.specs.Types.{Name, SourceType, parameters, result, is_class}
 use Rattle.cf_core.specs.Core.{Function, Static, CoreFile}
-use Rattle.cf_core.specs.Places.{is_reference}
 use Rattle.cf_core.specs.Joined as core
 use Rattle.cf_core.specs.Joined.{renamed, is_nothing}
 use Rattle.cf_plain.specs.Plain.{Plains, PlainFunction, PlainStatic, PlainFile, act, set, nothing, more}
@@ -19,14 +18,14 @@ use Rattle.cf_plain.specs.Joined as plain
 use Rattle.cf_sequence.specs.Built.{is_statement, is_built_function, is_body, is_plain_role, is_chain, is_none, is_constant_start, is_built_static, has_mark, declares_last, is_numeral, is_mark}
 use Rattle.cf_sequence.specs.Made.{declared, numbered}
 use Rattle.cf_sequence.specs.Expressions.{finished}
-use Rattle.cf_sequence.specs.Statements.{type_of_static, initialised, statement}
+use Rattle.cf_sequence.specs.Statements.{type_of_static, binds, reached, started, initialised, statement}
 use Rattle.cf_sequence.specs.Sequenced.{inside, flowed_off, sequenced_body, sequenced_function, sequenced_file}
 use Rattle.cf_sequence.proofs.Calling.{never}
 use Rattle.cf_sequence.proofs.StaticObjects.{type_found}
-use Rattle.cf_sequence.proofs.Constants.{set_as, start-is, constant-object, constant-start, something-constant, constant-element}
+use Rattle.cf_sequence.proofs.Constants.{set_as, start-is, constant-object, constant-start, something-constant, constant-element, by-set}
 use Rattle.cf_sequence.proofs.JoinedObjects.{beside}
-use Rattle.cf_sequence.proofs.Renamed.{same-adds, same-nothing, same-declared, same-statement, same-constant-start, same-last}
-use Rattle.cf_sequence.proofs.RenamedCode.{over-finished}
+use Rattle.cf_sequence.proofs.Renamed.{same-adds, same-nothing, same-binds, same-declared, same-statement, same-constant-start, same-last}
+use Rattle.cf_sequence.proofs.RenamedCode.{over-finished, over-bound}
 use Rattle.cf_sequence.proofs.RenamedLists.{over-element}
 use Rattle.cf_sequence.proofs.RenamedStatements.{over-statement}
 use Rattle.cf_sequence.proofs.SameStatics.{same-function}
@@ -212,8 +211,8 @@ module _ (k : ℕ) (names : List Name) where
     own-object : (x : Static) → is_own ys x ≡ true → is_built_static zs (core.static_in_file r x) ≡ true
     own-object x ok =
         let parts = both (is_built_static ys x) (not (has_mark x.name)) ok in
-        ap (λ t. x.is_constant && (not (is_reference t) && is_constant_start t (renamed r x.start))) (same-type ys ys all x.name parts.1)
-        ∙ ap (λ b. x.is_constant && (not (is_reference (type_of_static ys x.name)) && b)) (same-constant-start r (type_of_static ys x.name) x.start) ∙ parts.0
+        ap (λ t. x.is_constant && is_constant_start t (renamed r x.start)) (same-type ys ys all x.name parts.1)
+        ∙ ap (λ b. x.is_constant && b) (same-constant-start r (type_of_static ys x.name) x.start) ∙ parts.0
 
     own-each : (xs : List Static) → list_all (is_own ys) xs ≡ true → list_all (is_built_static zs) (map (core.static_in_file r) xs) ≡ true
     own-each [] ok = refl
@@ -223,6 +222,10 @@ module _ (k : ℕ) (names : List Name) where
 
     pub own-objects : list_all (is_built_static zs) zs ≡ true
     own-objects = own-each ys all
+
+    over-reached : (b : Bool) (t : SourceType) (name : Name) (rest : Plains) → plain.renamed_all r (reached b t name rest) ≡ reached b t (r name) (plain.renamed_all r rest)
+    over-reached true t name rest = refl
+    over-reached false t name rest = refl
 
     over-set : (x : Static) → is_built_static ys x ≡ true → plain.renamed_all r (set_as [] x (type_of_static ys x.name)) ≡ set_as [] (core.static_in_file r x) (type_of_static ys x.name)
     over-set x ok = by (is_nothing x.start) refl ∙ ap (λ b. if b then nothing else initialised [] t (r x.name) (renamed r x.start) 0 nothing) (sym (same-nothing r x.start))
@@ -234,9 +237,12 @@ module _ (k : ℕ) (names : List Name) where
             → plain.renamed_all r (if b then nothing else initialised [] t x.name x.start 0 nothing) ≡ (if b then nothing else initialised [] t (r x.name) (renamed r x.start) 0 nothing)
         by true e = refl
         by false e =
-            let element = constant-element t x.start (something-constant t x.start (constant-start ys x ok) e) in
-            ap (λ ss. more (act (plain_tree.reach (r x.name))) (more (set 0 (plain_tree.static_object (r x.name) t)) ss))
-            (over-element r [] t x.start element t 0 0 (more (act (plain_tree.finish_static x.name)) nothing))
+            let last : Plains = more (act (plain_tree.finish_static x.name)) nothing in
+            over-reached (binds x.start) t x.name (started [] t x.start 0 0 last)
+            ∙ ap (reached (binds x.start) t (r x.name))
+            (by-set t x.start (something-constant t x.start (constant-start ys x ok) e) (λ bound. over-bound r [] t x.start bound 0 0 last)
+            (λ other constant. over-element r [] t x.start (constant-element t x.start constant) t 0 0 last))
+            ∙ ap (λ b. reached b t (r x.name) (started [] t (renamed r x.start) 0 0 (plain.renamed_all r last))) (sym (same-binds r x.start))
 
     over-object : (x : Static) → is_own ys x ≡ true → plain_static_in_file (beside ys x) ≡ beside zs (core.static_in_file r x)
     over-object x ok =

@@ -8,10 +8,10 @@ use Rattle.cf_core.specs.Types.{Name, SourceType, is_array, same_but_const}
 use Rattle.cf_core.specs.Classes.{Class}
 use Rattle.cf_core.specs.Core.{item}
 use Rattle.cf_core.specs.Places.{Place, inner, is_inside, place_eq}
-use Rattle.cf_core.specs.Store.{Value, Number, Null, At, Code, DataMember, FunctionMember, is_dead}
+use Rattle.cf_core.specs.Store.{Value, Number, Null, At, Code, DataMember, FunctionMember}
 use Rattle.cf_core.specs.Run.{State, Frame, Literal, Act, ◌>>=◌, ◌>>◌, gives, malformed, undefined, state, changed, need, valid, some_or, born, with_frame, not_alive, outside_array, compared, cast_from_void}
 use Rattle.cf_core.specs.Access.{place_type, name_part}
-use Rattle.cf_core.specs.Pointers.{element_of, route_of, bound_of, further, up_to, moved_place, moved_value, sum_of, moved_back, same_array, both_stand, truth_value, difference_of, ordered, comparable, unlike_null, equal_values, pointer_op, from_void_value}
+use Rattle.cf_core.specs.Pointers.{element_of, route_of, bound_of, further, up_to, moved_place, moved_value, sum_of, moved_back, same_array, both_stand, both_there, truth_value, difference_of, ordered, comparable, unlike_null, equal_values, pointer_op, from_void_value}
 use Rattle.cf_core.specs.Scalars.{moved_by, indexed, decayed, pointed_to}
 use Rattle.cf_core.specs.Objects.{literal_of, found_literal, literal_object}
 use Rattle.cf_sequence.specs.Follows.{Follows}
@@ -29,14 +29,14 @@ pure-up_to n (Some i) = pure-then (need (nat_le i n) outside_array) (λ u. gives
 
 -- the number of the element that a pointer to an object that stands is moved to
 abbrev pub up_in : List Class → Place → ℤ → Act ℕ
-up_in cs p z = λ s w. (need (not (is_dead cs (s.object p.object) p.route)) not_alive >> up_to (bound_of cs (s.object p.object).type (element_of p.route)) (further (element_of p.route).index z)) s w
+up_in cs p z = λ s w. (need (not (s.object p.object).is_gone) not_alive >> up_to (bound_of cs (s.object p.object).type (element_of p.route)) (further (element_of p.route).index z)) s w
 
 pub looks-up_in : (cs : List Class) (p : Place) (z : ℤ) → Looks (up_in cs p z)
 looks-up_in cs p z =
-    let alive : State → Act (Unit {0}) = λ s. need (not (is_dead cs (s.object p.object) p.route)) not_alive in
+    let alive : State → Act (Unit {0}) = λ s. need (not (s.object p.object).is_gone) not_alive in
     let up : State → Act ℕ = λ s. up_to (bound_of cs (s.object p.object).type (element_of p.route)) (further (element_of p.route).index z) in
     let pure : (s : State) → Pure (alive s >> up s) =
-    λ s. pure-then (alive s) (λ u. up s) (pure-need (not (is_dead cs (s.object p.object) p.route)) not_alive)
+    λ s. pure-then (alive s) (λ u. up s) (pure-need (not (s.object p.object).is_gone) not_alive)
     (λ u. pure-up_to (bound_of cs (s.object p.object).type (element_of p.route)) (further (element_of p.route).index z)) in
     record { answer = λ s. (pure s).answer; runs = λ s w. ap (λ (a : Act _). a s w) (pure s).runs; blind = λ s f. refl }
 
@@ -45,7 +45,7 @@ abbrev pub element_at : Place → ℕ → Value
 element_at p i = At (record p { route = route_of (element_of p.route) i })
 
 pub moved-is : (cs : List Class) (p : Place) (z : ℤ) (s : State) (w : World) → moved_place cs p z s w ≡ (up_in cs p z >>= (λ i. gives (element_at p i))) s w
-moved-is cs p z s w = by-alive (not (is_dead cs (s.object p.object) p.route))
+moved-is cs p z s w = by-alive (not (s.object p.object).is_gone)
   where
     up : Act ℕ
     up = up_to (bound_of cs (s.object p.object).type (element_of p.route)) (further (element_of p.route).index z)
@@ -102,16 +102,16 @@ looks-from_void cs t v = looks-pure malformed pure-malformed
 pure-tests : {A : Type 0} (b c : Bool) (m n : ℕ) (a : A) → Pure (need b m >> (need c n >> gives a))
 pure-tests b c m n a = pure-then (need b m) (λ u. need c n >> gives a) (pure-need b m) (λ u. pure-then (need c n) (λ u. gives a) (pure-need c n) (λ u. pure-gives a))
 
-looks-difference : (cs : List Class) (v w : Value) → Looks (difference_of cs v w)
-looks-difference cs (At p) (At q) =
+looks-difference : (v w : Value) → Looks (difference_of v w)
+looks-difference (At p) (At q) =
     let z : Value = Number (pos (element_of p.route).index -ℤ pos (element_of q.route).index) in
-    let pure : (s : State) → Pure (need (both_stand cs s p q) not_alive >> (need (same_array p q) outside_array >> gives z)) =
-    λ s. pure-tests (both_stand cs s p q) (same_array p q) not_alive outside_array z in
+    let pure : (s : State) → Pure (need (both_there s p q) not_alive >> (need (same_array p q) outside_array >> gives z)) =
+    λ s. pure-tests (both_there s p q) (same_array p q) not_alive outside_array z in
     record { answer = λ s. (pure s).answer; runs = λ s w. ap (λ (a : Act _). a s w) (pure s).runs; blind = λ s f. refl }
-looks-difference cs Null Null = looks-pure (undefined _) (pure-undefined _)
-looks-difference cs Null (At q) = looks-pure (undefined _) (pure-undefined _)
-looks-difference cs (At p) Null = looks-pure (undefined _) (pure-undefined _)
-looks-difference cs v w = looks-pure malformed pure-malformed
+looks-difference Null Null = looks-pure (undefined _) (pure-undefined _)
+looks-difference Null (At q) = looks-pure (undefined _) (pure-undefined _)
+looks-difference (At p) Null = looks-pure (undefined _) (pure-undefined _)
+looks-difference v w = looks-pure malformed pure-malformed
 
 looks-ordered : (cs : List Class) (less : ℕ → ℕ → Bool) (v w : Value) → Looks (ordered cs less v w)
 looks-ordered cs less (At p) (At q) =
@@ -156,7 +156,7 @@ looks-moved_back cs v w = looks-pure malformed pure-malformed
 pub looks-pointer_op : (cs : List Class) (o : PointerOperator) (v w : Value) → Looks (pointer_op cs o v w)
 looks-pointer_op cs op.Add v w = looks-sum cs v w
 looks-pointer_op cs op.Subtract v w = looks-moved_back cs v w
-looks-pointer_op cs op.Difference v w = looks-difference cs v w
+looks-pointer_op cs op.Difference v w = looks-difference v w
 looks-pointer_op cs op.Less v w = looks-ordered cs nat_lt v w
 looks-pointer_op cs op.Greater v w = looks-ordered cs (λ i j. nat_lt j i) v w
 looks-pointer_op cs op.LessEqual v w = looks-ordered cs nat_le v w

@@ -13,7 +13,7 @@ use Rattle.cf_core.specs.Store.{Value, At}
 use Rattle.cf_core.specs.Run.{State, Frame, Act, ◌>>=◌, ◌>>◌, gives, valid, declared_object, frame_changed, lists_local, lists_in_scope, with_frame}
 use Rattle.cf_core.specs.Objects.{settle, settled as core_settled}
 use Rattle.cf_core.specs.Calls as calling
-use Rattle.cf_core.specs.Calls.{Program, root, function_named, full_expression}
+use Rattle.cf_core.specs.Calls.{Program, root, function_named}
 use Rattle.cf_core.specs.Expressions as meaning
 use Rattle.cf_plain.specs.Plain.{Register, Plains, act, set, more}
 use Rattle.cf_plain.specs.Plain as plain
@@ -119,7 +119,7 @@ module _ (again : calling.Again) (again' : running.Again) (P : Program) (bodies 
       → Follows S
       (and_then ((valid b >> (declared_object u >>= (λ q. frame_changed (lists_local j q) >> gives q))) (with_frame (record (lists_local i s.next s.frame) { temporaries = [] }) (declared-state i T s)) w)
       (on (λ q. (core_settled P.classes (root q) (meaning.value again P e (Some (root q))) >> (frame_changed (lists_in_scope q) >> gives (At (root q)))) >>=
-      (λ v. closing again P s.frame.temporaries v >>= (λ v. settle P.classes (root s.next) v >>= (λ x. frame_changed (lists_in_scope s.next) >>= (λ x. c calling.Falls)))))))
+      (λ v. settle P.classes (root s.next) v >>= (λ x. closing again P s.frame.temporaries x >>= (λ x. frame_changed (lists_in_scope s.next) >>= (λ x. c calling.Falls)))))))
       (runs_on again' (H again again' P) (started P.classes T (core.bind (local_temporary j u) e) 0 k rest) h K (with_frame (lists_local i s.next f) (declared-state i T s)) w)
   held-started i j T u e ok no_reference m le lt op D k rest h s f w c K at st room falls false there = record { by = tt }
   held-started i j T u e ok no_reference m le lt op D k rest h s f w c K at st room falls true there =
@@ -138,10 +138,11 @@ module _ (again : calling.Again) (again' : running.Again) (P : Program) (bodies 
       let ts : List Temporary = temporaries false e k in
       let place : Value = At (root q) in
       let listed : Frame = both_listed i o j q s.frame in
-      let bound : Plains = more (act (plain.first 0 n)) rest in
-      let last : Plains = ended x (reverse ts) bound in
-      let binds : Value → Act A = λ v. settle P.classes (root o) v >>= (λ x. frame_changed (lists_in_scope o) >>= (λ x. c calling.Falls)) in
-      let closes : Value → Act A = λ v. closing again P s.frame.temporaries v >>= binds in
+      let after : Plains = ended x (reverse ts) rest in
+      let last : Plains = more (act (plain.first 0 n)) after in
+      let scopes : Unit {0} → Act A = λ x. frame_changed (lists_in_scope o) >>= (λ x. c calling.Falls) in
+      let shuts : Unit {0} → Act A = λ x. closing again P s.frame.temporaries x >>= scopes in
+      let closes : Value → Act A = λ v. settle P.classes (root o) v >>= shuts in
       let ends : Act Value = frame_changed (lists_in_scope q) >> gives place in
       let code : Plains = value P.classes x e (destination object u) first k (settled e object first last) in
       let named : Plains = more (set n (plain.local j)) code in
@@ -168,12 +169,12 @@ module _ (again : calling.Again) (again' : running.Again) (P : Program) (bodies 
       (sym (value-gives again again' P bodies chains A B S e ok))
       (first-steps again again' P bodies chains A B S object first (root q) v h3 last (λ x. ends >>= closes) K t f3 w3
       (done.grown.below object (omega arith) (inr (omega arith)) ∙ keep-other n object h1 place (λ z. omega arith) ∙ keep-same object h0 place) done.value (λ t3 same.
-      closing-steps again again' P bodies chains classless A B S x ts done.grown.made listed (with_frame (lists_in_scope q t3.frame) t3) h3 f3 w3 place binds bound K
-      (ap (λ (x : Frame). lists_in_scope q x) (same ∙ done.grown.frame)) done.grown.listed (λ t4 same4.
-      first-steps again again' P bodies chains A B S 0 n (root o) place h3 rest (λ x. frame_changed (lists_in_scope o) >>= (λ x. c calling.Falls)) K t4 f3 w3
+      first-steps again again' P bodies chains A B S 0 n (root o) place h3 after shuts K (with_frame (lists_in_scope q t3.frame) t3) f3 w3
       (done.grown.below 0 (omega arith) (inl (omega arith)) ∙ keep-other n 0 h1 place (λ z. omega arith) ∙ keep-other object 0 h0 place (λ z. omega arith) ∙ cleared.below 0 (omega arith) ∙ at)
-      (done.grown.below n (omega arith) (inr (omega arith)) ∙ keep-same n h1 place) (λ t5 same5.
-      held-falls i j k o q T u m op D rest s f c K st le lt number falls t5 f3 h3 w3 (same5 ∙ same4) done.kept))))))))))
+      (done.grown.below n (omega arith) (inr (omega arith)) ∙ keep-same n h1 place) (λ t4 same4.
+      closing-steps again again' P bodies chains classless A B S x ts done.grown.made listed t4 h3 f3 w3 tt scopes rest K
+      (same4 ∙ ap (λ (x : Frame). lists_in_scope q x) (same ∙ done.grown.frame)) done.grown.listed (λ t5 same5.
+      held-falls i j k o q T u m op D rest s f c K st le lt number falls t5 f3 h3 w3 same5 done.kept))))))))))
 
   pub held-declaration : (i : ℕ) (T : SourceType) (e : Core) (m : ℕ) → nat_le m i ≡ true → is_held i e ≡ true → (op : Open) (D : Beyond) (k : ℕ) (rest : Plains) (g : Registers) (s : State) (f : Frame) (w : World)
       (c : calling.Flow → Act A) (K : Flow → Act B)
@@ -196,13 +197,14 @@ module _ (again : calling.Again) (again' : running.Again) (P : Program) (bodies 
       let c2 = st.ready.wide in
       let falling_on : Unit {0} → Act A = λ x. c calling.Falls in
       let listing : Unit {0} → Act (Unit {0}) = λ x. frame_changed (lists_in_scope o) in
-      let binds : Value → Act A = λ v. settle P.classes (root o) v >>= (λ x. frame_changed (lists_in_scope o) >>= falling_on) in
+      let scopes : Unit {0} → Act A = λ x. frame_changed (lists_in_scope o) >>= falling_on in
+      let shuts : Unit {0} → Act A = λ x. closing again P s.frame.temporaries x >>= scopes in
       let keeps : ℕ → Act Value = λ q. core_settled P.classes (root q) (meaning.value again P e (Some (root q))) >> (frame_changed (lists_in_scope q) >> gives (At (root q))) in
       let made = (valid (nat_lt j s.frame.count) >> (declared_object u >>= (λ q. frame_changed (lists_local j q) >> gives q))) s0 w in
       declare-steps again' (H again again' P) i T 0 (started P.classes T held 0 k rest) g K _ s f w (omega arith)
       (pull (settled_full again P (root o) held s1 w) listing falling_on _
-      (pull (full_expression again P (meaning.value again P held (Some (root o))) s1 w) (settle P.classes (root o)) (λ x. frame_changed (lists_in_scope o) >>= falling_on) _
-      (pull (and_then made (on keeps)) (closing again P s.frame.temporaries) binds _
-      (pull made keeps (λ v. closing again P s.frame.temporaries v >>= binds) _
+      (pull (and_then (and_then made (on keeps)) (on (settle P.classes (root o)))) (closing again P s.frame.temporaries) scopes _
+      (pull (and_then made (on keeps)) (settle P.classes (root o)) shuts _
+      (pull made keeps (λ v. settle P.classes (root o) v >>= shuts) _
       (held-started i j T u e value_parts.1 (not-so (is_reference u) value_parts.0) m (low-bound m i le) (lower i j parts.0) op D k rest (keep g 0 (At (root o))) s f w c K (keep-same 0 g (At (root o))) st room falls (nat_lt j s.frame.count) refl)))))
   held-declaration i T e m le ok op D k rest g s f w c K st room falls b there = never ok

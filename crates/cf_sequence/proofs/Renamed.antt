@@ -10,7 +10,8 @@ use Rattle.cf_core.specs.Places.{is_reference}
 use Rattle.cf_core.specs.Nodes.{nodes, nodes_all, nodes_maybe, nodes_parts}
 use Rattle.cf_core.specs.Joined.{renamed, renamed_all, renamed_maybe, renamed_parts, is_nothing}
 use Rattle.cf_core.specs.Valid.{is_label, has_label}
-use Rattle.cf_sequence.specs.Built.{is_row, is_chain, is_value, are_values, are_arguments, is_condition, is_start, is_filling, is_initial, is_list, is_element, are_elements, is_held, behind_declared, next_local, next_locals, declares_here, any_declares, is_statement, are_cases, are_statements, is_constant_value, is_constant_initial, is_constant_list, are_constant_elements, is_constant_element, is_constant_start, is_statement_or, declares_last, or_declares_last, all_declare_last, none_declares}
+use Rattle.cf_sequence.specs.Built.{is_row, is_chain, is_value, are_values, are_arguments, is_condition, is_start, is_filling, is_initial, is_list, is_element, are_elements, is_held, behind_declared, next_local, next_locals, declares_here, any_declares, is_statement, are_cases, are_statements, is_constant_value, is_constant_initial, is_constant_list, are_constant_elements, is_constant_element, is_bound, is_constant_set, is_constant_start, is_statement_or, declares_last, or_declares_last, all_declare_last, none_declares}
+use Rattle.cf_sequence.specs.Statements.{binds}
 use Rattle.cf_sequence.specs.Made.{Local, temporaries, temporaries_all, added, makes, width, width_maybe, width_all, declared, declared_all, held_by}
 use Rattle.cf_sequence.specs.Expressions.{builds}
 use Rattle.cf_sequence.proofs.Calling.{never}
@@ -316,11 +317,22 @@ module _ (r : Name → Name) where
         two-same (is_constant_element t (renamed r e)) (are_constant_elements t (renamed_all r es)) (is_constant_element t e) (are_constant_elements t es)
         (ap (λ b. b || is_constant_list t (renamed r e)) (same-constant-initial e) ∙ ap (λ b. is_constant_initial e || b) (same-constant-list t e)) (same-constant-elements t es)
 
+  same-bound : (e : Core) → is_bound (renamed r e) ≡ is_bound e
+  same-bound (core.bind no_temporary e) = same-constant e
+  same-bound (core.bind (local_temporary i t) e) = refl
+  same-bound (core.bind (static_temporary n) e) = same-constant e
+  same-bound e = refl
+
+  pub same-binds : (e : Core) → binds (renamed r e) ≡ binds e
+  same-binds (core.bind h e) = refl
+  same-binds e = refl
+
   pub same-constant-start : (t : SourceType) (e : Core) → is_constant_start t (renamed r e) ≡ is_constant_start t e
   same-constant-start t e =
-      ap (λ b. b || is_constant_element t (renamed r e)) (same-nothing e)
-      ∙ ap (λ b. is_nothing e || (b || is_constant_list t (renamed r e))) (same-constant-initial e)
-      ∙ ap (λ b. is_nothing e || (is_constant_initial e || b)) (same-constant-list t e)
+      ap (λ b. b || is_constant_set t (renamed r e)) (same-nothing e)
+      ∙ ap (λ b. is_nothing e || (b || (not (is_reference t) && is_constant_element t (renamed r e)))) (same-bound e)
+      ∙ ap (λ b. is_nothing e || (is_bound e || (not (is_reference t) && (b || is_constant_list t (renamed r e))))) (same-constant-initial e)
+      ∙ ap (λ b. is_nothing e || (is_bound e || (not (is_reference t) && (is_constant_initial e || b)))) (same-constant-list t e)
 
   same-condition : (e : MaybeCore) → is_condition (renamed_maybe r e) ≡ is_condition e
   same-condition absent = refl

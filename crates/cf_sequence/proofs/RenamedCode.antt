@@ -5,19 +5,20 @@ use Rattle.cf_base.proofs.Tests.{both}
 use Rattle.cf_core.specs.Types.{Name, SourceType, parameters, result, is_class}
 use Rattle.cf_core.specs.Classes.{Class}
 use Rattle.cf_core.specs.Core as core
-use Rattle.cf_core.specs.Core.{Core, Cores, MaybeCore, no_temporary, local_temporary, none, absent, given}
+use Rattle.cf_core.specs.Core.{Core, Cores, MaybeCore, no_temporary, local_temporary, static_temporary, none, absent, given}
 use Rattle.cf_core.specs.Places.{is_reference}
 use Rattle.cf_core.specs.Joined.{renamed, renamed_all, renamed_maybe, is_nothing}
 use Rattle.cf_plain.specs.Plain.{Register, Plains, act, set, branch, loop, switch, case_label, default_label, leave, continue, give, nothing, more}
 use Rattle.cf_plain.specs.Plain as plain
 use Rattle.cf_plain.specs.Joined as joined
-use Rattle.cf_sequence.specs.Built.{is_value, are_values, are_arguments, is_chain, is_condition, is_start, is_filling, is_initial, is_held}
+use Rattle.cf_sequence.specs.Built.{is_value, are_values, are_arguments, is_chain, is_condition, is_start, is_filling, is_initial, is_held, is_bound}
 use Rattle.cf_sequence.specs.Made.{Local, Temporary, temporaries, numbers, width}
 use Rattle.cf_sequence.specs.Expressions.{Full, flag, flags, ended, Destination, destination, value, values, arguments, settled, builds, result_register, whole, finished, used}
 use Rattle.cf_sequence.specs.Statements.{condition, held, stepped, started}
 use Rattle.cf_sequence.proofs.Calling.{never, or-else}
 use Rattle.cf_sequence.proofs.Filling.{fill, started-is}
 use Rattle.cf_sequence.proofs.Fulls.{nothing-is, held_at}
+use Rattle.cf_sequence.proofs.Constants.{constant-value}
 use Rattle.cf_sequence.proofs.Renamed.{same-width, same-temporaries, same-builds, same-filling}
 
 module _ (r : Name → Name) where
@@ -175,10 +176,10 @@ module _ (r : Name → Name) where
           ∙ ap (settled (again e) n (suc n)) (over-arguments ts es p.1 x n (suc i) (k + width e) rest ∙ ap (λ w. arguments cs x ts (renamed_all r es) n (suc i) (k + w) (over rest)) (sym (same-width r e)))))
 
     -- a full expression, and what follows with its register
-    pub over-whole : (e : Core) → is_value e ≡ true → (n : Register) (k : ℕ) (into : Option Destination) (go : Register → Plains → Plains) (rest later : Register → Plains)
-        → ((m : Register) (ss : Plains) → over (go m ss) ≡ go m (over ss)) → ((m : Register) → over (rest m) ≡ later m)
-        → over (whole e n k (λ x m ss. value cs x e into m k (go m ss)) rest) ≡ whole (again e) n k (λ x m ss. value cs x (again e) into m k (go m ss)) later
-    over-whole e ok n k into go rest later goes same =
+    pub over-whole : (e : Core) → is_value e ≡ true → (n : Register) (k : ℕ) (into : Option Destination) (go then_go : Register → Plains → Plains) (rest later : Register → Plains)
+        → ((m : Register) (ss : Plains) → over (go m ss) ≡ then_go m (over ss)) → ((m : Register) → over (rest m) ≡ later m)
+        → over (whole e n k (λ x m ss. value cs x e into m k (go m ss)) rest) ≡ whole (again e) n k (λ x m ss. value cs x (again e) into m k (then_go m ss)) later
+    over-whole e ok n k into go then_go rest later goes same =
         let x : Full = record { first = k; base = n } in
         let m : Register = n + width e in
         let ts : List Temporary = temporaries false e k in
@@ -186,9 +187,9 @@ module _ (r : Name → Name) where
         over-flags x ts (value cs x e into m k (go m (ended x (reverse ts) (rest m))))
         ∙ ap (flags x ts)
         (over-value e ok x into m k (go m (ended x (reverse ts) (rest m)))
-        ∙ ap (value cs x (again e) into m k) (goes m (ended x (reverse ts) (rest m)) ∙ ap (go m) (over-ended x (reverse ts) (rest m) ∙ ap (ended x (reverse ts)) (same m))))
-        ∙ ap (λ us. flags x us (value cs x (again e) into m k (go m (behind us)))) (sym (same-temporaries r e ok false k))
-        ∙ ap (λ w. flags x (temporaries false (again e) k) (value cs x (again e) into (n + w) k (go (n + w) (ended x (reverse (temporaries false (again e) k)) (later (n + w)))))) (sym (same-width r e))
+        ∙ ap (value cs x (again e) into m k) (goes m (ended x (reverse ts) (rest m)) ∙ ap (then_go m) (over-ended x (reverse ts) (rest m) ∙ ap (ended x (reverse ts)) (same m))))
+        ∙ ap (λ us. flags x us (value cs x (again e) into m k (then_go m (behind us)))) (sym (same-temporaries r e ok false k))
+        ∙ ap (λ w. flags x (temporaries false (again e) k) (value cs x (again e) into (n + w) k (then_go (n + w) (ended x (reverse (temporaries false (again e) k)) (later (n + w)))))) (sym (same-width r e))
 
     over-fill : (e : Core) → is_filling e ≡ true → (n : Register) (rest : Plains) → over (more (act (fill e n)) rest) ≡ more (act (fill (again e) n)) (over rest)
     over-fill core.zeros ok n rest = refl
@@ -205,7 +206,7 @@ module _ (r : Name → Name) where
         (λ starts. or-else (is_nothing e) (is_value e) starts
         (λ blank. subst (λ e. over (started cs t e n k rest) ≡ started cs t (again e) n k (over rest)) (sym (nothing-is e blank)) refl)
         (λ is.
-        over-whole e is (suc n) k (destination n t) (λ m ss. ss) (λ m. settled e n m rest) (λ m. settled (again e) n m (over rest)) (λ m ss. refl) (λ m. over-settled e n m rest)))
+        over-whole e is (suc n) k (destination n t) (λ m ss. settled e n m ss) (λ m ss. settled (again e) n m ss) (λ m. rest) (λ m. over rest) (λ m ss. over-settled e n m ss) (λ m. refl)))
 
     -- a reference's temporary
     pub over-kept : (i : ℕ) (t : SourceType) (e : Core) → is_held i e ≡ true → (n : Register) (k : ℕ) (rest : Plains) → over (started cs t e n k rest) ≡ started cs t (again e) n k (over rest)
@@ -215,20 +216,39 @@ module _ (r : Name → Name) where
         let ts : List Temporary = temporaries false e k in
         let from : Core → List Temporary → Register → Plains → Plains = λ e ts m rest.
         flags x ts (more (set (suc m) (plain.declare j u)) (more (set m (plain.local j))
-        (value cs x e (destination (suc m) u) (suc (suc m)) k (settled e (suc m) (suc (suc m)) (ended x (reverse ts) (more (act (plain.first n m)) rest)))))) in
+        (value cs x e (destination (suc m) u) (suc (suc m)) k (settled e (suc m) (suc (suc m)) (more (act (plain.first n m)) (ended x (reverse ts) rest)))))) in
         let m : Register = held_at e n in
-        let bound : Plains = more (act (plain.first n m)) rest in
-        let last : Plains = ended x (reverse ts) bound in
+        let last : Plains = more (act (plain.first n m)) (ended x (reverse ts) rest) in
         over-flags x ts (more (set (suc m) (plain.declare j u)) (more (set m (plain.local j)) (value cs x e (destination (suc m) u) (suc (suc m)) k (settled e (suc m) (suc (suc m)) last))))
         ∙ ap (λ ss. flags x ts (more (set (suc m) (plain.declare j u)) (more (set m (plain.local j)) ss)))
         (over-value e is x (destination (suc m) u) (suc (suc m)) k (settled e (suc m) (suc (suc m)) last)
-        ∙ ap (value cs x (again e) (destination (suc m) u) (suc (suc m)) k) (over-settled e (suc m) (suc (suc m)) last ∙ ap (settled (again e) (suc m) (suc (suc m))) (over-ended x (reverse ts) bound)))
+        ∙ ap (value cs x (again e) (destination (suc m) u) (suc (suc m)) k) (over-settled e (suc m) (suc (suc m)) last ∙ ap (settled (again e) (suc m) (suc (suc m))) (ap (more (act (plain.first n m))) (over-ended x (reverse ts) rest))))
         ∙ ap (λ us. from (again e) us m (over rest)) (sym (same-temporaries r e is false k))
         ∙ ap (λ w. from (again e) (temporaries false (again e) k) (suc n + w) (over rest)) (sym (same-width r e))
     over-kept i t e ok n k rest = never ok
 
+    -- what binds a static reference
+    pub over-bound : (t : SourceType) (e : Core) → is_bound e ≡ true → (n : Register) (k : ℕ) (rest : Plains) → over (started cs t e n k rest) ≡ started cs t (again e) n k (over rest)
+    over-bound t (core.bind no_temporary e) ok n k rest = over-started t (core.bind no_temporary e) (constant-value e ok) n k rest
+    over-bound t (core.bind (static_temporary name) e) ok n k rest =
+        let is = constant-value e ok in
+        let x : Full = record { first = k; base = suc n } in
+        let ts : List Temporary = temporaries false e k in
+        let from : Core → List Temporary → Register → Plains → Plains = λ e ts m rest.
+        flags x ts (value cs x e None (suc m) k (more (set m (plain.finish_static (r name))) (settled e m (suc m) (more (act (plain.first n m)) (ended x (reverse ts) rest))))) in
+        let m : Register = held_at e n in
+        let last : Plains = more (act (plain.first n m)) (ended x (reverse ts) rest) in
+        over-flags x ts (value cs x e None (suc m) k (more (set m (plain.finish_static name)) (settled e m (suc m) last)))
+        ∙ ap (flags x ts)
+        (over-value e is x None (suc m) k (more (set m (plain.finish_static name)) (settled e m (suc m) last))
+        ∙ ap (λ ss. value cs x (again e) None (suc m) k (more (set m (plain.finish_static (r name))) ss))
+        (over-settled e m (suc m) last ∙ ap (settled (again e) m (suc m)) (ap (more (act (plain.first n m))) (over-ended x (reverse ts) rest))))
+        ∙ ap (λ us. from (again e) us m (over rest)) (sym (same-temporaries r e is false k))
+        ∙ ap (λ w. from (again e) (temporaries false (again e) k) (suc n + w) (over rest)) (sym (same-width r e))
+    over-bound t e ok n k rest = never ok
+
     pub over-condition : (q : Core) → is_value q ≡ true → (k : ℕ) (rest later : Register → Plains) → ((m : Register) → over (rest m) ≡ later m) → over (condition cs q k rest) ≡ condition cs (again q) k later
-    over-condition q ok k rest later same = over-whole q ok 0 k None (λ m ss. more (set m (plain.truth m)) ss) rest later (λ m ss. refl) same
+    over-condition q ok k rest later same = over-whole q ok 0 k None (λ m ss. more (set m (plain.truth m)) ss) (λ m ss. more (set m (plain.truth m)) ss) rest later (λ m ss. refl) same
 
     pub over-held : (q : MaybeCore) → is_condition q ≡ true → (k : ℕ) (rest later : Plains) → over rest ≡ later → over (held cs q k rest) ≡ held cs (renamed_maybe r q) k later
     over-held absent ok k rest later e = e
@@ -237,4 +257,4 @@ module _ (r : Name → Name) where
 
     pub over-stepped : (q : MaybeCore) → is_condition q ≡ true → (k : ℕ) → over (stepped cs q k) ≡ stepped cs (renamed_maybe r q) k
     over-stepped absent ok k = refl
-    over-stepped (given e) ok k = over-whole e ok 0 k None (λ m ss. ss) (λ m. nothing) (λ m. nothing) (λ m ss. refl) (λ m. refl)
+    over-stepped (given e) ok k = over-whole e ok 0 k None (λ m ss. ss) (λ m ss. ss) (λ m. nothing) (λ m. nothing) (λ m ss. refl) (λ m. refl)

@@ -48,7 +48,7 @@ module _ (r : Name → Name) where
       let in_place : Core → Plains → Plains = λ e rest. more (set 0 plain.result) (started f.classes f.result e 0 k (finished (f.here ++ f.returns) (more (give None) rest))) in
       let by_value : Core → Plains → Plains = λ e rest. whole e 0 k (λ x n ss. value f.classes x e None n k (used n ss)) (λ n. finished (f.here ++ f.returns) (more (give (Some n)) rest)) in
       ap (λ b. over (if b then in_place e rest else by_value e rest)) plain_result
-      ∙ over-whole r f.classes e ok 0 k None (λ m ss. used m ss) (λ n. finished (f.here ++ f.returns) (more (give (Some n)) rest)) (λ n. finished (f.here ++ f.returns) (more (give (Some n)) (over rest)))
+      ∙ over-whole r f.classes e ok 0 k None (λ m ss. used m ss) (λ m ss. used m ss) (λ n. finished (f.here ++ f.returns) (more (give (Some n)) rest)) (λ n. finished (f.here ++ f.returns) (more (give (Some n)) (over rest)))
       (λ m ss. refl) (λ n. over-left (f.here ++ f.returns) (give (Some n)) rest refl)
       ∙ sym (ap (λ b. if b then in_place (again e) (over rest) else by_value (again e) (over rest)) plain_result)
 
@@ -108,7 +108,7 @@ module _ (r : Name → Name) where
     over-statement (core.full e) m ok f pr k rest =
         or-else (is_nothing e) (is_value e) ok
         (λ blank. subst (λ e. over (statement f (core.full e) k rest) ≡ statement f (core.full (again e)) k (over rest)) (sym (nothing-is e blank)) refl)
-        (λ is. over-whole r f.classes e is 0 k None (λ m ss. ss) (λ m. rest) (λ m. over rest) (λ m ss. refl) (λ m. refl))
+        (λ is. over-whole r f.classes e is 0 k None (λ m ss. ss) (λ m ss. ss) (λ m. rest) (λ m. over rest) (λ m ss. refl) (λ m. refl))
     over-statement (core.block es) m ok f pr k rest =
         over-statements es m ok (opened f) pr k (finished (declared_all es) rest)
         ∙ ap (statements (opened f) (renamed_all r es) k) (over-finished r (declared_all es) rest ∙ ap (λ xs. finished xs (over rest)) (sym (same-declared-all r es)))
@@ -156,7 +156,7 @@ module _ (r : Name → Name) where
         over-cases es m parts.1 (in_switch f) pr (k + width e) (finished (declared_all es) nothing)
         ∙ ap (statements (in_switch f) (renamed_all r es) (k + width e)) (over-finished r (declared_all es) nothing)
         ∙ ap (body (width e)) (sym (same-declared-all r es)) ∙ ap (λ w. body w (declared_all (renamed_all r es))) (sym (same-width r e)) in
-        over-whole r f.classes e parts.0 0 k None (λ m ss. used m ss)
+        over-whole r f.classes e parts.0 0 k None (λ m ss. used m ss) (λ m ss. used m ss)
         (λ n. passed n es (more (switch n (statements (in_switch f) es (k + width e) (finished (declared_all es) nothing))) rest))
         (λ n. passed n (renamed_all r es) (more (switch n (body (width (again e)) (declared_all (renamed_all r es)))) (over rest)))
         (λ m ss. refl)

@@ -1,5 +1,5 @@
 -- Static objects with constant initialisers: the plain program sets them as the program does.
-use Rattle.std.proofs.Common.{◌≡◌, ℕ, ◌+◌, ◌≤◌, ◌<◌, Bool, true, false, not, nat_lt, cond, List, [], ◌∷◌, map, length, refl, sym, ◌∙◌, ap, subst, arith, slice_get}
+use Rattle.std.proofs.Common.{◌≡◌, ℕ, ◌+◌, ◌≤◌, ◌<◌, Bool, true, false, nat_lt, cond, List, [], ◌∷◌, map, length, refl, sym, ◌∙◌, ap, subst, arith, slice_get}
 use Rattle.std.specs.Prelude.{Option, Some, None}
 use Rattle.std.specs.List.{list_all}
 use Rattle.std.proofs.lemmas.Bool.Decides.{nat_tests}
@@ -9,12 +9,12 @@ use Rattle.cf_core.specs.Types.{SourceType, Name, same_but_const}
 use Rattle.cf_core.specs.Classes.{Class}
 use Rattle.cf_core.specs.Core.{Core, Function, Static}
 use Rattle.cf_core.specs.Places.{Place, is_reference}
-use Rattle.cf_core.specs.Store.{Value, Nothing, At}
+use Rattle.cf_core.specs.Store.{Value, At}
 use Rattle.cf_core.specs.Run.{State, Frame, Did, Act, ◌>>=◌, ◌>>◌, gives, done, changed, need, when, for_all, with_frame, frame_changed, cast_from_void}
 use Rattle.cf_core.specs.Access.{followed, read_place, bound_to}
 use Rattle.cf_core.specs.Objects.{static_number, static_type}
 use Rattle.cf_core.specs.Calls as calling
-use Rattle.cf_core.specs.Calls.{Program, Setting, root, function_named, finish_static, has_destructor}
+use Rattle.cf_core.specs.Calls.{Program, Setting, root, function_named, finish_static}
 use Rattle.cf_core.specs.Program.{set_constant, first_state, static_object_of}
 use Rattle.cf_core.specs.Statements.{initialises}
 use Rattle.cf_plain.specs.Plain.{Plains, act, set, nothing, more}
@@ -25,9 +25,9 @@ use Rattle.cf_plain.specs.Program.{PlainSetting}
 use Rattle.cf_plain.specs.Running as running
 use Rattle.cf_plain.specs.Running.{Flow, keep, all}
 use Rattle.cf_sequence.specs.Follows.{Follows}
-use Rattle.cf_sequence.specs.Built.{is_chain, is_initial, is_list, is_constant_element, is_built_setting}
+use Rattle.cf_sequence.specs.Built.{is_chain, is_initial, is_list, is_built_setting}
 use Rattle.cf_sequence.specs.Made.{width}
-use Rattle.cf_sequence.specs.Statements.{type_of_static, started, initialised}
+use Rattle.cf_sequence.specs.Statements.{type_of_static, reached, started, initialised}
 use Rattle.cf_sequence.proofs.Following.{on, pull, push, follows-then}
 use Rattle.cf_sequence.proofs.SameTypes.{same-itself}
 use Rattle.cf_sequence.proofs.StaticObjects.{object_at, same-named, place_of_number, same-place, static-type-is, before, found-type-first, length-is}
@@ -35,14 +35,14 @@ use Rattle.cf_sequence.proofs.Calling.{Bodies, or-else}
 use Rattle.cf_sequence.proofs.Kept.{Kept, Ready, ready-kept, keep-same}
 use Rattle.cf_sequence.proofs.PlainSteps.{runs_on, set-steps, act-steps}
 use Rattle.cf_sequence.proofs.Operands.{H}
-use Rattle.cf_sequence.proofs.Moving.{no-destructor}
 use Rattle.cf_sequence.proofs.Standing.{settled_full}
-use Rattle.cf_sequence.proofs.Lasting.{Keeps, keeps-gives, keeps-next, keeps-when, Lasting}
+use Rattle.cf_sequence.proofs.Lasting.{Keeps, keeps-next, Lasting}
 use Rattle.cf_sequence.proofs.LastingCode.{Rests, settled-keeps}
-use Rattle.cf_sequence.proofs.LastingStatics.{element-lasts}
+use Rattle.cf_sequence.proofs.LastingStatics.{set-lasts, finish-lasts}
 use Rattle.cf_sequence.proofs.Lists.{Intact, still-intact, known, alone, initial-steps}
 use Rattle.cf_sequence.proofs.Elements.{nested-steps}
-use Rattle.cf_sequence.proofs.Constants.{constant-element, element-width}
+use Rattle.cf_sequence.proofs.StaticReferences.{not-destroyed, bound-steps}
+use Rattle.cf_sequence.proofs.Constants.{constant-element, set-width, by-set, bound-binds, element-binds}
 
 -- ---- the objects of static storage
 
@@ -77,10 +77,6 @@ first-stood P depth name = by-bound (nat_lt n (length P.statics)) refl
       stands = not-gone P.classes (slice_get P.statics n);
     }
 
-is-false : (b : Bool) → not b ≡ true → b ≡ false
-is-false true e = sym e
-is-false false e = refl
-
 -- ---- what lasts of them while one of them is set
 
 module _ (again : calling.Again) (P : Program) (classless : P.classes ≡ []) (rests : Rests again P) (s0 : State)
@@ -95,8 +91,8 @@ module _ (again : calling.Again) (P : Program) (classless : P.classes ≡ []) (r
   changes : (f : State → State) → ((s : State) → L s → L (f s)) → Keeps L (changed f)
   changes f k = record { by = λ s w q. k s q }
 
-  set-lasts : (x : Setting) → is_constant_element (type_of_static P.statics x.object) x.start ≡ true → Keeps L (set_constant again P x)
-  set-lasts x ok =
+  setting-lasts : (x : Setting) → is_built_setting P.statics x ≡ true → Keeps L (set_constant again P x)
+  setting-lasts x ok =
       keeps-next L (frame_changed (λ g. record g { function = x.function })) (initialises again P x.object x.start)
       (changes _ (λ s q. record { next = q.next; objects = q.objects; temporaries = q.temporaries; scope = q.scope })) (by (static_number P x.object) (stood x.object))
     where
@@ -115,9 +111,8 @@ module _ (again : calling.Again) (P : Program) (classless : P.classes ≡ []) (r
           keeps-next L (changed reaches) _ (changes reaches (λ s q. record { next = q.next; objects = q.objects; temporaries = q.temporaries; scope = q.scope }))
           (keeps-next L (settled_full again P (root o) x.start) _
           (settled-keeps again P classless rests s0.next s0.object [] x.start (root o)
-          (element-lasts again P classless rests s0.next s0.object [] t x.start (constant-element t x.start ok) (root o) (record { old = st.below; type = st.type })))
-          (keeps-when L (has_destructor P.classes (static_type P x.object)) _ done
-          (changes _ (λ s q. record { next = q.next; objects = q.objects; temporaries = q.temporaries; scope = q.scope })) (keeps-gives L tt)))
+          (set-lasts again P classless rests s0.next s0.object [] t x.start ok (root o) (record { old = st.below; type = st.type })))
+          (finish-lasts again P classless rests s0.next s0.object [] (static_type P x.object) o))
 
 -- ---- both runs
 
@@ -143,12 +138,6 @@ module _ (again : calling.Again) (again' : running.Again) (P : Program) (bodies 
     abbrev T : SourceType
     T = type_of_static P.statics name
 
-    constant : is_constant_element T e ≡ true
-    constant = (both (not (is_reference T)) (is_constant_element T e) ok).1
-
-    no-reference : is_reference T ≡ false
-    no-reference = is-false (is_reference T) (both (not (is_reference T)) (is_constant_element T e) ok).0
-
     -- what comes behind the initialiser
     abbrev finishing : ℕ → Act (Unit {0})
     finishing o = finish_static P (static_type P name) o
@@ -159,9 +148,6 @@ module _ (again : calling.Again) (again' : running.Again) (P : Program) (bodies 
     abbrev K1 : Flow → Act B
     K1 = λ flow. K tt
 
-    not-destroyed : (P : Program) → P.classes ≡ [] → (t : SourceType) → has_destructor P.classes t ≡ false
-    not-destroyed P none t = ap (λ cs. has_destructor cs t) none ∙ no-destructor t
-
     module _ (next : Next) where
       ends : (o : ℕ) → static_number P name ≡ Some o → (h : Registers) (t : State) (g : Frame) (w : World) → Ready 0 t.frame g → t.frame.temporaries ≡ []
           → Follows S ((finishing o >>= c) t w) (runs_on again' Hp behind h K1 (with_frame g t) w)
@@ -170,9 +156,9 @@ module _ (again : calling.Again) (again' : running.Again) (P : Program) (bodies 
           let records : State → State = λ s. record s { finished = o ∷ s.finished } in
           subst (λ b. Follows S (and_then (when b (changed records) done t w) (on c)) (runs_on again' Hp behind h K1 (with_frame g t) w)) (sym (not-destroyed P classless (static_type P name)))
           (act-steps again' Hp (plain.finish_static name) nothing h K1 _ (with_frame g t) w
-          (subst (λ (a : Act Place). Follows S (c tt t w) (and_then ((a >>= (λ p. finish_static Hp (static_type Hp name) p.object >>= (λ u. gives Nothing))) (with_frame g t) w) (on G)))
+          (subst (λ (a : Act Place). Follows S (c tt t w) (and_then ((a >>= (λ p. finish_static Hp (static_type Hp name) p.object >> gives (At p))) (with_frame g t) w) (on G)))
           (sym (same-place P name ∙ ap place_of_number is))
-          (subst (λ b. Follows S (c tt t w) (and_then ((when b (changed records) done >>= (λ u. gives Nothing)) (with_frame g t) w) (on G))) (sym (not-destroyed Hp classless (static_type Hp name)))
+          (subst (λ b. Follows S (c tt t w) (and_then ((when b (changed records) done >> gives (At (root o))) (with_frame g t) w) (on G))) (sym (not-destroyed Hp classless (static_type Hp name)))
           (next t g w ready empty))))
 
       -- the initialiser itself, in a state where control has reached it
@@ -182,17 +168,20 @@ module _ (again : calling.Again) (again' : running.Again) (P : Program) (bodies 
       starts o is s f w ready empty stands =
           let h1 : Registers = keep no_registers 0 (At (root o)) in
           let C : Unit {0} → Act A = λ u. finishing o >>= c in
-          let room : 0 + width e ≤ f.count = (let z = element-width T e constant in omega arith) in
+          let room : 0 + width e ≤ f.count = (let z = set-width T e ok in omega arith) in
           let then_on : (t : State) (h : Registers) (g : Frame) (w1 : World) → t.frame ≡ s.frame → Kept 0 f g → Follows S (C tt t w1) (runs_on again' Hp behind h K1 (with_frame g t) w1) =
           λ t h g w1 same kept.
           ends o is h t g w1 (subst (λ fr. Ready 0 fr g) (sym same) (ready-kept 0 s.frame f g ready kept)) (ap (λ (fr : Frame). fr.temporaries) same ∙ empty) in
+          by-set T e ok
+          (λ bound. bound-steps again again' P bodies chains classless A B S T e bound (root o) behind h1 s f w C K1 (keep-same 0 no_registers (At (root o))) ready room then_on)
+          (λ other constant.
           or-else (is_initial e) (is_list T e) (constant-element T e constant)
           (λ initial.
           initial-steps again again' P bodies chains classless A B S T e initial 0 0 (root o) behind h1 s f w C K1 (keep-same 0 no_registers (At (root o))) ready room
           (λ t h g w1 same kept below. then_on t h g w1 same kept))
           (λ listed.
           nested-steps again again' P bodies chains classless rests A B S T e listed T 0 0 (root o) behind h1 s f w C K1 (keep-same 0 no_registers (At (root o))) ready room stands
-          (record { type = refl; inside = refl }) (λ t h g w1 same kept below left. then_on t h g w1 same kept))
+          (record { type = refl; inside = refl }) (λ t h g w1 same kept below left. then_on t h g w1 same kept)))
 
       -- control reaches the object
       abbrev reaches : State → State
@@ -207,23 +196,46 @@ module _ (again : calling.Again) (again' : running.Again) (P : Program) (bodies 
       fits : same_but_const (static_type P name) T ≡ true
       fits = ap (same_but_const (static_type P name)) (sym (static-type-is P name)) ∙ same-itself (static_type P name)
 
-      by-number : (n : Option ℕ) → static_number P name ≡ n → (s : State) (f : Frame) (w : World) → Ready 0 s.frame f → s.frame.temporaries ≡ [] → Stood s T n
-          → Follows S (and_then (core_from n s w) (on c)) (runs_on again' Hp (initialised P.classes T name e 0 nothing) no_registers K1 (with_frame f s) w)
-      by-number None is s f w ready empty stood = record { by = tt }
-      by-number (Some o) is s f w ready empty stood =
+      -- its place is in register 0
+      placed : (o : ℕ) → static_number P name ≡ Some o → (s : State) (f : Frame) (w : World) → Ready 0 s.frame f → s.frame.temporaries ≡ [] → Intact T o s
+          → Follows S (and_then (core_from (Some o) s w) (on c)) (runs_on again' Hp rest (keep no_registers 0 (At (root o))) K1 (with_frame f (reaches s)) w)
+      placed o is s f w ready empty stood =
+          pull (settled_full again P (root o) e (reaches s) w) (λ u. finishing o) c _
+          (starts o is (reaches s) f w ready empty (record { below = stood.below; type = stood.type; life = stood.life; stands = stood.stands }))
+
+      -- a reference's own place
+      of-reference : (o : ℕ) → static_number P name ≡ Some o → (s : State) (f : Frame) (w : World) → Ready 0 s.frame f → s.frame.temporaries ≡ [] → Intact T o s
+          → Follows S (and_then (core_from (Some o) s w) (on c)) (runs_on again' Hp (reached true T name rest) no_registers K1 (with_frame f s) w)
+      of-reference o is s f w ready empty stood =
+          let X : Ran (Did A) = and_then (core_from (Some o) s w) (on c) in
+          let G1 : Value → Act B = λ v. λ t w. runs_on again' Hp rest (keep no_registers 0 v) K1 t w in
+          set-steps again' Hp 0 (plain.reach name) rest no_registers K1 X (with_frame f s) w
+          (subst (λ (a : Act Place). Follows S X (and_then ((a >>= (λ p. changed reaches >> gives (At p))) (with_frame f s) w) (on G1))) (sym (same-place P name ∙ ap place_of_number is))
+          (placed o is s f w ready empty stood))
+
+      of-object : (o : ℕ) → static_number P name ≡ Some o → (s : State) (f : Frame) (w : World) → Ready 0 s.frame f → s.frame.temporaries ≡ [] → Intact T o s → is_reference T ≡ false
+          → Follows S (and_then (core_from (Some o) s w) (on c)) (runs_on again' Hp (reached false T name rest) no_registers K1 (with_frame f s) w)
+      of-object o is s f w ready empty stood other =
           let X : Ran (Did A) = and_then (core_from (Some o) s w) (on c) in
           let s2 : State = reaches s in
           let G1 : Value → Act B = λ v. λ t w. runs_on again' Hp (more (set 0 (plain.static_object name T)) rest) no_registers K1 t w in
           let G2 : Value → Act B = λ v. λ t w. runs_on again' Hp rest (keep no_registers 0 v) K1 t w in
-          let no : is_reference (s.object o).type ≡ false = ap is_reference stood.type ∙ no-reference in
+          let no : is_reference (s.object o).type ≡ false = ap is_reference stood.type ∙ other in
           act-steps again' Hp (plain.reach name) (more (set 0 (plain.static_object name T)) rest) no_registers K1 X (with_frame f s) w
-          (subst (λ (a : Act Place). Follows S X (and_then ((a >> (changed reaches >>= (λ u. gives Nothing))) (with_frame f s) w) (on G1))) (sym (same-place P name ∙ ap place_of_number is))
+          (subst (λ (a : Act Place). Follows S X (and_then ((a >>= (λ p. changed reaches >> gives (At p))) (with_frame f s) w) (on G1))) (sym (same-place P name ∙ ap place_of_number is))
           (set-steps again' Hp 0 (plain.static_object name T) rest no_registers K1 X (with_frame f s2) w
           (subst (λ (a : Act Place). Follows S X (and_then ((a >>= followed P.classes) (with_frame f s2) w) (on G2))) (sym (same-named P name T ∙ ap (λ n. object_at n (static_type P name) T) is))
           (subst (λ b. Follows S X (and_then ((((place_of_number (Some o) >> need b cast_from_void) >> place_of_number (Some o)) >>= followed P.classes) (with_frame f s2) w) (on G2))) (sym fits)
           (subst (λ b. Follows S X (and_then (when b (read_place P.classes (root o) >>= bound_to) (gives (At (root o))) (with_frame f s2) w) (on G2))) (sym no)
-          (pull (settled_full again P (root o) e s2 w) (λ u. finishing o) c _
-          (starts o is s2 f w ready empty (record { below = stood.below; type = stood.type; life = stood.life; stands = stood.stands }))))))))
+          (placed o is s f w ready empty stood))))))
+
+      by-number : (n : Option ℕ) → static_number P name ≡ n → (s : State) (f : Frame) (w : World) → Ready 0 s.frame f → s.frame.temporaries ≡ [] → Stood s T n
+          → Follows S (and_then (core_from n s w) (on c)) (runs_on again' Hp (initialised P.classes T name e 0 nothing) no_registers K1 (with_frame f s) w)
+      by-number None is s f w ready empty stood = record { by = tt }
+      by-number (Some o) is s f w ready empty stood =
+          let y : Bool → Type 0 = λ b. Follows S (and_then (core_from (Some o) s w) (on c)) (runs_on again' Hp (reached b T name rest) no_registers K1 (with_frame f s) w) in
+          by-set T e ok (λ bound. subst y (sym (bound-binds e bound)) (of-reference o is s f w ready empty stood))
+          (λ other constant. subst y (sym (element-binds T e constant)) (of-object o is s f w ready empty stood other))
 
       setting-steps : (s : State) (f : Frame) (w : World) → Ready 0 s.frame f → s.frame.temporaries ≡ [] → Stood s T (static_number P name)
           → Follows S (and_then (set_constant again P x s w) (on c)) (and_then (plain_program.set_constant again' Hp (setting_of P x) (with_frame f s) w) (on K))
@@ -273,13 +285,12 @@ module _ (again : calling.Again) (again' : running.Again) (P : Program) (bodies 
     settings-steps {S = S} (x ∷ xs) ok s f w ready empty q c K next =
         let parts = both (is_built_setting P.statics x) (list_all (is_built_setting P.statics) xs) ok in
         let t : SourceType = type_of_static P.statics x.object in
-        let constant = (both (not (is_reference t)) (is_constant_element t x.start) parts.0).1 in
         let first : Ran (Did (Unit {0})) = set_constant again P x s w in
         let second : Ran (Did (Unit {0})) = plain_program.set_constant again' Hp (setting_of P x) (with_frame f s) w in
         pull first (λ u. for_all xs (set_constant again P)) c _
         (push second (λ u. for_all (map (setting_of P) xs) (plain_program.set_constant again' Hp)) K _
         (follows-then first second (λ u. for_all xs (set_constant again P) >>= c) (λ u. for_all (map (setting_of P) xs) (plain_program.set_constant again' Hp) >>= K)
-        (known (λ (u : Unit {0}) (t : State). Lasting s0.next s0.object [] t) first second (Keeps.by (set-lasts again P classless rests s0 stood x constant) s w q)
+        (known (λ (u : Unit {0}) (t : State). Lasting s0.next s0.object [] t) first second (Keeps.by (setting-lasts again P classless rests s0 stood x parts.0) s w q)
         (one-setting x parts.0 s f w ready empty (still-stood again P classless rests s0 stood t (static_number P x.object) (stood x.object) s q)))
         (λ u t v z w1 r.
         subst (λ (z : State). Follows S ((for_all xs (set_constant again P) >>= c) t w1) ((for_all (map (setting_of P) xs) (plain_program.set_constant again' Hp) >>= K) z w1)) (sym (Set_on.after r.0))

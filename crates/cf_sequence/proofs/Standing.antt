@@ -92,9 +92,9 @@ stands-later o D m n k l xs s f t g st v le low more-locals room held = record {
 pub moved-all : (m k : ℕ) (s : State) (f : Frame) → Ready k s.frame f → Moved m s f s f
 moved-all m k s f r = record { core = refl; plain = refl; below = λ i lt. refl; locals = r.locals }
 
--- an initialiser of a place, as a full expression of its own
+-- an initialiser of a place, as a full expression of its own, in which its value is stored
 abbrev pub settled_full : calling.Again → Program → Place → Core → Act (Unit {0})
-settled_full again P p e = full_expression again P (meaning.value again P e (Some p)) >>= settle P.classes p
+settled_full again P p e = full_expression again P (meaning.value again P e (Some p) >>= settle P.classes p)
 
 abbrev pub result_act : calling.Again → Program → Core → Option Place → Act Value
 result_act again P e r = elim r [

@@ -80,10 +80,12 @@ same-named P name t =
     ap (λ n. object_at n (static_type (headers (sequenced P)) name) t) (same-number P.classes P.statics name P.statics)
     ∙ ap (λ u. object_at (static_number P name) u t) (same-found P.classes P.statics name P.statics)
 
+pub pure-place : (P : Program) (name : Name) → Pure (static_place P name)
+pure-place P name = pure-then (some_or (static_number P name) malformed) (λ o. gives (root o)) (pure-some_or (static_number P name) malformed pure-malformed) (λ o. pure-gives (root o))
+
 pub pure-named : (P : Program) (name : Name) (t : SourceType) → Pure (named_object P name t)
 pure-named P name t =
-    let place : Pure (static_place P name) =
-    pure-then (some_or (static_number P name) malformed) (λ o. gives (root o)) (pure-some_or (static_number P name) malformed pure-malformed) (λ o. pure-gives (root o)) in
+    let place = pure-place P name in
     pure-then (same_type P name t) (λ u. static_place P name)
     (pure-then (static_place P name) (λ u. need (same_but_const (static_type P name) t) cast_from_void) place (λ u. pure-need (same_but_const (static_type P name) t) cast_from_void)) (λ u. place)
 

@@ -5,7 +5,7 @@ use Rattle.std.specs.Char.{is_ascii_digit}
 use Rattle.std.specs.List.{list_all, starts_with}
 use Rattle.cf_core.specs.Types.{Name, SourceType, array, const, takes, gives, result, is_class, parameters, plain, element}
 use Rattle.cf_core.specs.Core as core
-use Rattle.cf_core.specs.Core.{Core, Cores, MaybeCore, no_temporary, local_temporary, none, absent, given, Role, plain_function, Function, Static, CoreFile}
+use Rattle.cf_core.specs.Core.{Core, Cores, MaybeCore, no_temporary, local_temporary, static_temporary, none, absent, given, Role, plain_function, Function, Static, CoreFile}
 use Rattle.cf_core.specs.Calls.{Program, Setting}
 use Rattle.cf_core.specs.Places.{is_reference}
 use Rattle.cf_core.specs.Joined.{is_nothing}
@@ -219,8 +219,18 @@ abbrev mutual
 abbrev pub is_constant_element : SourceType → Core → Bool
 is_constant_element t e = is_constant_initial e || is_constant_list t e
 
+-- what binds a static reference: the place of something static, or a static object of its own that a constant begins (8.4.3)
+abbrev pub is_bound : Core → Bool
+is_bound (core.bind no_temporary e) = is_constant_value e
+is_bound (core.bind (static_temporary name) e) = is_constant_value e
+is_bound e = false
+
+-- what sets a static object of this type
+abbrev pub is_constant_set : SourceType → Core → Bool
+is_constant_set t e = is_bound e || (not (is_reference t) && is_constant_element t e)
+
 abbrev pub is_constant_start : SourceType → Core → Bool
-is_constant_start t e = is_nothing e || is_constant_element t e
+is_constant_start t e = is_nothing e || is_constant_set t e
 
 abbrev pub is_none : {A : Type 0} → List A → Bool
 is_none [] = true
@@ -239,15 +249,13 @@ abbrev pub is_built_function : Function → Bool
 is_built_function f =
     is_plain_role f.role && (is_chain f.type && ((not (bytes_eq f.name (codes "__main")) || is_none (parameters f.type)) && is_body f))
 
--- A static object with a constant initialiser, which is no reference. Its name has a type among these objects.
+-- A static object with a constant initialiser. Its name has a type among these objects.
 abbrev pub is_built_static : List Static → Static → Bool
-is_built_static statics x =
-    x.is_constant && (not (is_reference (type_of_static statics x.name)) && is_constant_start (type_of_static statics x.name) x.start)
+is_built_static statics x = x.is_constant && is_constant_start (type_of_static statics x.name) x.start
 
 -- what sets such an object, in a program
 abbrev pub is_built_setting : List Static → Setting → Bool
-is_built_setting statics x =
-    not (is_reference (type_of_static statics x.object)) && is_constant_element (type_of_static statics x.object) x.start
+is_built_setting statics x = is_constant_set (type_of_static statics x.object) x.start
 
 -- A program of such functions and objects.
 abbrev pub is_plainly_built : Program → Bool

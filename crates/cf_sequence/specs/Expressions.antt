@@ -1,6 +1,6 @@
 -- Expressions and initialisers as plain statements. The value of an expression comes into a register: the registers below it stay, those above are
 -- free. An operator is its left operand in a register, its right one in the next, and then the action. Of classes these are not there yet: copies and
--- assignments by functions, the elements of `new[]` and of an array that one initialiser builds, and static objects that are references.
+-- assignments by functions, the elements of `new[]` and of an array that one initialiser builds, and temporaries that static references bind.
 use Rattle.std.specs.Prelude.{ℕ, zero, suc, ◌+◌, ◌-◌, length, Bool, true, false, ◌&&◌, if◌then◌else◌, List, [], ◌∷◌, pos, Option, Some, None, reverse, slice_get}
 use Rattle.cf_core.specs.Types.{SourceType, parameters, result, is_class, plain as unqualified, element, is_array}
 use Rattle.cf_core.specs.Classes.{Class, fields_of, type_in}
@@ -217,8 +217,8 @@ module _ (classes : List Class) where
         (elements x es d 0 n k
         (repeated (count es) (parts_count d.type - count es) (λ i rest.
         in_turn (is_array d.type && costs_tick last classes u) (λ rest. part_in n d.register d.type i
-        (whole last (suc n) (k + width_all es) (λ y m rest. value y last (destination n (part_type d.type i)) m (k + width_all es) rest)
-        (λ m. settled last n m rest))) rest)
+        (whole last (suc n) (k + width_all es) (λ y m rest. value y last (destination n (part_type d.type i)) m (k + width_all es) (settled last n m rest))
+        (λ m. rest))) rest)
         (built d rest)))
     value x (core.string bytes) (Some d) n k rest = more (act (plain.bytes d.register bytes)) rest
     value x core.zeros (Some d) n k rest = more (act (plain.zeros d.register)) rest
@@ -226,7 +226,8 @@ module _ (classes : List Class) where
     value x (core.bind (local_temporary i t) e) into n k rest =
         more (set (suc n) (plain.declare i t)) (more (set n (plain.local i))
         (value x e (destination (suc n) t) (suc (suc n)) k (settled e (suc n) (suc (suc n)) rest)))
-    value x (core.bind (static_temporary name) e) into n k rest = value x e None n k rest
+    value x (core.bind (static_temporary name) e) into n k rest =
+        value x e None (suc n) k (more (set n (plain.finish_static name)) (settled e n (suc n) rest))
     value x e into n k rest = rest
 
     -- each element of a list by itself (8.4.1)
@@ -234,7 +235,7 @@ module _ (classes : List Class) where
     elements x none d i n k rest = rest
     elements x (core.more e es) d i n k rest =
         in_turn (is_array d.type && costs_tick e classes (part_type d.type i)) (λ rest. part_in n d.register d.type i
-        (whole e (suc n) k (λ y m rest. value y e (destination n (part_type d.type i)) m k rest) (λ m. settled e n m rest)))
+        (whole e (suc n) k (λ y m rest. value y e (destination n (part_type d.type i)) m k (settled e n m rest)) (λ m. rest)))
         (elements x es d (suc i) n (k + width e) rest)
 
     -- an expression's parts in order; the last one's value stays (5.18)

@@ -1,5 +1,5 @@
 -- Statements: the ends of objects on each way out of a scope, loops with their conditions inside, and what a label passes.
-use Rattle.std.specs.Prelude.{ℕ, suc, ◌+◌, length, if◌then◌else◌, Bool, false, ◌||◌, List, [], ◌∷◌, ◌++◌, Option, Some, None, reverse, find, bytes_eq}
+use Rattle.std.specs.Prelude.{ℕ, suc, ◌+◌, length, if◌then◌else◌, Bool, true, false, ◌||◌, List, [], ◌∷◌, ◌++◌, Option, Some, None, reverse, find, bytes_eq}
 use Rattle.cf_core.specs.declared.operators.LoopForm.TheVariants as form
 use Rattle.cf_core.specs.Types.{Name, SourceType, void, is_class}
 use Rattle.cf_core.specs.Classes.{Class}
@@ -59,14 +59,23 @@ abbrev pub stepped : List Class → MaybeCore → ℕ → Plains
 stepped classes absent k = nothing
 stepped classes (given e) k = whole e 0 k (λ x n rest. value classes x e None n k rest) (λ n. nothing)
 
--- an initialiser of the place in register n, as a full expression of its own
+-- an initialiser of the place in register n, as a full expression of its own, in which its value is stored
 abbrev pub started : List Class → SourceType → Core → Register → ℕ → Plains → Plains
-started classes t e n k rest = whole e (suc n) k (λ x m rest. value classes x e (destination n t) m k rest) (λ m. settled e n m rest)
+started classes t e n k rest = whole e (suc n) k (λ x m rest. value classes x e (destination n t) m k (settled e n m rest)) (λ m. rest)
+
+-- whether an initialiser is a reference's (8.4.3)
+abbrev pub binds : Core → Bool
+binds (core.bind h e) = true
+binds e = false
+
+-- Control has reached a static object, and its place comes into register 0; the name of a reference stands for the place that it is bound to.
+abbrev pub reached : Bool → SourceType → Name → Plains → Plains
+reached true t name rest = more (set 0 (plain.reach name)) rest
+reached false t name rest = more (act (plain.reach name)) (more (set 0 (plain.static_object name t)) rest)
 
 -- A static object is reached, and then initialised (6.7).
 abbrev pub initialised : List Class → SourceType → Name → Core → ℕ → Plains → Plains
-initialised classes t name e k rest =
-    more (act (plain.reach name)) (more (set 0 (plain.static_object name t)) (started classes t e 0 k (more (act (plain.finish_static name)) rest)))
+initialised classes t name e k rest = reached (binds e) t name (started classes t e 0 k (more (act (plain.finish_static name)) rest))
 
 -- the returned value, and what ends before the function does
 abbrev pub returned : Inside → Core → ℕ → Plains → Plains

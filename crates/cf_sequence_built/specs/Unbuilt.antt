@@ -323,6 +323,7 @@ pub record Constant : Type 0 where
   pub value : Bool  -- as an expression
   pub is_filling : Bool  -- whether it fills its object by itself
   pub list : Option (SourceType → Bool)  -- as a list that sets an object of this type, if it is one
+  pub is_bound : Bool  -- as what binds a static reference
 
 abbrev pub constant_value : Core-F Constant Constant → Bool
 constant_value (Core-F.Number at z) = true
@@ -364,8 +365,18 @@ abbrev pub constant_list : Core-F Constant Constant → Option (SourceType → B
 constant_list (Core-F.List at es rest) = Some (λ t. is_row t && (each_sets (element (plain t)) es && rest.is_filling))
 constant_list x = None
 
+-- a place, or a static object of its own (8.4.3)
+abbrev pub by_holder : Holder → Bool → Bool
+by_holder (holder.LocalTemporary i t) constant = false
+by_holder h constant = constant
+
+abbrev pub constant_bound : Core-F Constant Constant → Bool
+constant_bound (Core-F.Bind at h e) = by_holder h e.value
+constant_bound x = false
+
 abbrev pub constant_step : Core-F Constant Constant → Constant
-constant_step x = record { value = constant_value x; is_filling = constant_filling x; list = constant_list x }
+constant_step x =
+    record { value = constant_value x; is_filling = constant_filling x; list = constant_list x; is_bound = constant_bound x }
 
 abbrev pub constant_part : PartStart-F Constant Constant → Constant
 constant_part x = x.start
@@ -387,6 +398,10 @@ abbrev pub has_mark : List ℕ → Bool
 has_mark [] = false
 has_mark (b ∷ rest) = is_mark (b ∷ rest) || has_mark rest
 
+-- whether it sets a static object of this type
+abbrev pub sets_object : SourceType → Constant → Bool
+sets_object t e = e.is_bound || (not (is_reference t) && sets t e)
+
 -- the type of a name among the objects of a file
 abbrev pub type_named : Tables → List CoreStatic → List ℕ → SourceType
 type_named tables xs name = found (find (λ (x : CoreStatic). bytes_eq x.name name) xs)
@@ -395,12 +410,10 @@ type_named tables xs name = found (find (λ (x : CoreStatic). bytes_eq x.name na
     found None = void
     found (Some x) = type_of tables x.ty
 
--- A static object with a constant initialiser, which is no reference, among the objects of its file.
+-- A static object with a constant initialiser, among the objects of its file.
 abbrev pub is_usual_object : Tables → List CoreStatic → CoreStatic → Bool
 is_usual_object tables all x =
-    x.is_constant
-    && (not (is_reference (type_named tables all x.name))
-    && (((test tables x.start).is_blank || sets (type_named tables all x.name) (constant x.start)) && not (has_mark x.name)))
+    x.is_constant && (((test tables x.start).is_blank || sets_object (type_named tables all x.name) (constant x.start)) && not (has_mark x.name))
 
 abbrev pub in_static : Tables → List CoreStatic → CoreStatic → Option ℕ
 in_static tables all x = if is_usual_object tables all x then None else Some (place x.start)

@@ -7,9 +7,9 @@ ghost use Rattle.cf_core.specs.Numbers.{function_known, static_known};
 ghost use Rattle.cf_sequence_built.specs.Unbuilt as spec;
 
 use crate::arms::crowd;
-use crate::constants::sets;
+use crate::constants::sets_object;
 use crate::statements::{is_blank, statement};
-use crate::types::{is_of_class, is_reference};
+use crate::types::is_of_class;
 use cf_core::{CoreFn, CoreStatic, CoreUnit, Role};
 
 /// Whether it is a function of numbers and pointers; `main` takes nothing.
@@ -81,15 +81,14 @@ fn has_mark(name: &[u8]) -> bool
     }
 }
 
-/// Whether it is a static object with a constant initialiser, which is no reference.
+/// Whether it is a static object with a constant initialiser.
 fn is_usual_object(unit: &CoreUnit, x: &CoreStatic) -> bool
     requires known { static_known (tables_of unit.now) x.now ≡ true }
     requires named { spec.type_named (tables_of unit.now) unit.now.statics x.now.name ≡ type_of (tables_of unit.now) x.now.ty }
     ensures { result ≡ spec.is_usual_object (tables_of unit.now) unit.now.statics x.now }
 {
     x.is_constant
-        && !is_reference(unit, x.ty)
-        && (is_blank(&x.start) || sets(unit, x.ty, &x.start))
+        && (is_blank(&x.start) || sets_object(unit, x.ty, &x.start))
         && !has_mark(x.name.as_slice())
 }
 

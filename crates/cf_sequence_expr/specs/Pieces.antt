@@ -109,10 +109,14 @@ unfoldable pub held : ℕ → ℕ → Piece → Full → ℕ → Writing → Wri
 held i t e x n w =
     act (action.First (suc n) (suc (suc n))) (e.value x (suc (suc n)) (set n (action.Local i) (set (suc n) (action.Declare i t) w)))
 
+-- That of a static reference is a static object of its own, which the value begins; its place comes into this register (8.4.3).
+unfoldable pub static_held : List ℕ → Piece → Full → ℕ → Writing → Writing
+static_held name e x n w = act (action.First n (suc n)) (set n (action.FinishStatic name) (e.value x (suc n) w))
+
 abbrev pub by_holder : Holder → Piece → Full → ℕ → Writing → Writing
 by_holder holder.NoTemporary e x n w = e.value x n w
 by_holder (holder.LocalTemporary i t) e x n w = held i t e x n w
-by_holder (holder.StaticTemporary name) e x n w = e.value x n w
+by_holder (holder.StaticTemporary name) e x n w = static_held name e x n w
 
 abbrev pub by_call : List ℕ → ℕ → List ℕ → Option Piece → List Piece → Full → ℕ → Writing → Writing
 by_call name t ts None es x n w = called name t ts es x n w

@@ -5,6 +5,7 @@
 
 mod changes;
 mod function_types;
+mod holders;
 mod locals;
 mod temporaries;
 mod values;

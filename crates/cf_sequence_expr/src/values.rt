@@ -7,6 +7,7 @@ ghost use Rattle.cf_sequence_expr.specs.Pieces as spec;
 
 use crate::changes::{stepped, stepped_behind, updated};
 use crate::function_types::{numbers, parameters, type_at};
+use crate::holders::{held, static_held};
 use crate::locals::width;
 use crate::writing::{Full, Writing, behind, beyond, copied};
 use cf_base::{Memory, Name};
@@ -242,9 +243,8 @@ pub fn value(unit: &CoreUnit, e: &Core, full: Full, n: u32, w: &mut Writing) -> 
             operand,
             ..
         } => match holder {
-            Holder::NoTemporary | Holder::StaticTemporary(_) => {
-                value(unit, operand.get(), full, n, w)
-            }
+            Holder::NoTemporary => value(unit, operand.get(), full, n, w),
+            Holder::StaticTemporary(name) => static_held(unit, operand.get(), name, full, n, w),
             Holder::LocalTemporary { local, ty } => {
                 held(unit, operand.get(), *local, *ty, full, n, w)
             }
@@ -276,32 +276,6 @@ fn truth(unit: &CoreUnit, e: &Core, full: Full, n: u32, w: &mut Writing) -> Resu
 {
     value(unit, e, full, n, w)?;
     w.set(n, Action::Truth { operand: n })
-}
-
-/// Writes the temporary of a local reference, which is this local, and its place into this register (8.4.3).
-#[cycle(values)]
-#[tactic(auto, unfolding(crate::specs::Pieces::held))]
-fn held(
-    unit: &CoreUnit,
-    e: &Core,
-    local: u32,
-    ty: TyId,
-    full: Full,
-    n: u32,
-    w: &mut Writing,
-) -> Result<(), Memory>
-    requires { are_known (tables_of unit.now) e.now ≡ true }
-    ensures { OnOk result (w.new ≡ spec.held local ty (piece unit.now.types e.now) full n w.old) }
-{
-    let object = behind(n)?;
-    let first = behind(object)?;
-    w.set(object, Action::Declare { local, ty })?;
-    w.set(n, Action::Local { number: local })?;
-    value(unit, e, full, first, w)?;
-    w.act(Action::First {
-        place: object,
-        value: first,
-    })
 }
 
 /// Writes a temporary of the full expression, and its place into this register; its flag tells that it is there (12.2).

@@ -13,7 +13,7 @@ use Rattle.cf_sequence_expr.specs.Pieces.{piece}
 use Rattle.cf_sequence_stmt.specs.declared.body.Body.{Body}
 use Rattle.cf_sequence_stmt.specs.declared.body.Open.{Open}
 use Rattle.cf_sequence_stmt.specs.Bodies.{left_to, placed}
-use Rattle.cf_sequence_stmt.specs.Steps.{step, inside_loop}
+use Rattle.cf_sequence_stmt.specs.Steps.{step, binds, inside_loop}
 
 -- parameters of these types, numbered from the first
 abbrev pub opens_from : ℕ → List ℕ → List Open
@@ -61,7 +61,7 @@ written_object types alloc x =
       name = x.name;
       ty = x.ty;
       locals = (piece types x.start).locals [];
-      start = Writing.code (placed x.name x.ty s.initial s.piece (blank_writing alloc));
+      start = Writing.code (placed x.name x.ty (binds x.start) s.initial s.piece (blank_writing alloc));
       owner = x.owner;
       is_constant = x.is_constant;
       is_shared = x.is_shared;

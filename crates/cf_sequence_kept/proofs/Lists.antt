@@ -106,10 +106,11 @@ module _ (body : Body) (locals : List SourceType) (keeps : locals_of.Kept body.s
         now = q.now;
         below = λ r lt. q.same r ∙ p.below r lt;
         goes = λ rest.
-            p.goes (ended x (reverse ts) (settled e n m rest)) ∙ q.goes (settled e n m rest)
-            ∙ ap (λ ss. run ss q.now) (settled-put e is n m rest)
-            ∙ act-runs locals body.result q.now (plain.first n m) no_value rest
-            (ap (λ o. kept.begun o (q.now m)) (q.same n ∙ p.below n low) ∙ ap (kept.begun (g n)) (q.same m ∙ p.at) ∙ takes.first p.kept (p.related.start t (s is)));
+            let last : Plains = ended x (reverse ts) rest in
+            p.goes (settled e n m last) ∙ ap (λ ss. run ss p.now) (settled-put e is n m last)
+            ∙ act-runs locals body.result p.now (plain.first n m) no_value last
+            (ap (λ o. kept.begun o (p.now m)) (p.below n low) ∙ ap (kept.begun (g n)) p.at ∙ takes.first p.kept (p.related.start t (s is)))
+            ∙ q.goes rest;
       }))
 
   -- ---- the place of an element

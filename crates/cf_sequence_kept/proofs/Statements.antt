@@ -122,8 +122,8 @@ module _ (body : Body) (locals : List SourceType) (keeps : locals_of.Kept body.s
       record {
         now = q.now;
         goes = λ rest.
-            let bound : Plains = more (act (plain.first 0 n)) rest in
-            let last : Plains = ended x (reverse ts) bound in
+            let after : Plains = ended x (reverse ts) rest in
+            let last : Plains = more (act (plain.first 0 n)) after in
             let inner : Plains = value f.classes x e (destination (suc n) u) (suc (suc n)) k (settled e (suc n) (suc (suc n)) last) in
             c.goes (more (set (suc n) (plain.declare j u)) (more (set n (plain.local j)) inner))
             ∙ set-runs locals body.result c.now (suc n) (plain.declare j u) (an_object j u) (more (set n (plain.local j)) inner) refl
@@ -132,10 +132,9 @@ module _ (body : Body) (locals : List SourceType) (keeps : locals_of.Kept body.s
             ∙ ap (λ ss. run ss p.now) (settled-put e is (suc n) (suc (suc n)) last)
             ∙ act-runs locals body.result p.now (plain.first (suc n) (suc (suc n))) no_value last
             (ap (λ o. kept.begun o (p.now (suc (suc n)))) object ∙ ap (kept.begun (Some (an_object j u))) p.at ∙ ap (λ b. given b no_value) (p.related.start u parts.1))
-            ∙ q.goes bound
-            ∙ act-runs locals body.result q.now (plain.first 0 n) no_value rest
-            (ap (λ o. kept.begun o (q.now n)) (q.same 0 ∙ first) ∙ ap (kept.begun (Some (an_object i t))) (q.same n ∙ place)
-            ∙ ap (λ b. given b no_value) (held-suits scope j u (typing scope e) t fit own.type own.same));
+            ∙ act-runs locals body.result p.now (plain.first 0 n) no_value after
+            (ap (λ o. kept.begun o (p.now n)) first ∙ ap (kept.begun (Some (an_object i t))) place ∙ ap (λ b. given b no_value) (held-suits scope j u (typing scope e) t fit own.type own.same))
+            ∙ q.goes rest;
       }
   runs-held f i t e ok fit k g st at = never ok
 

@@ -12,15 +12,15 @@ use Rattle.cf_plain.specs.Plain as plain
 use Rattle.cf_sequence.specs.Built.{is_body, is_statement, declares_last, is_built_static}
 use Rattle.cf_sequence.specs.Made.{Local, added, declared, numbered}
 use Rattle.cf_sequence.specs.Expressions.{finished}
-use Rattle.cf_sequence.specs.Statements.{type_of_static, initialised}
+use Rattle.cf_sequence.specs.Statements.{type_of_static, binds, reached, started, initialised}
 use Rattle.cf_sequence.specs.Sequenced.{inside, flowed_off, sequenced_body, sequenced_start}
 use Rattle.cf_sequence.proofs.Calling.{never}
-use Rattle.cf_sequence.proofs.Constants.{constant-object, constant-start, constant-element, something-constant, start-is}
+use Rattle.cf_sequence.proofs.Constants.{constant-object, constant-start, constant-element, something-constant, by-set, start-is}
 use Rattle.cf_sequence_lowered.proofs.Each.{Each, each-reversed}
 use Rattle.cf_sequence_lowered.proofs.Rooms.{Space}
 use Rattle.cf_sequence_lowered.proofs.Suits.{Suits, Own, Passed}
 use Rattle.cf_sequence_lowered.proofs.Temporaries.{fine-finished}
-use Rattle.cf_sequence_lowered.proofs.Initials.{element-sound}
+use Rattle.cf_sequence_lowered.proofs.Initials.{element-sound, bound-sound}
 use Rattle.cf_sequence_lowered.proofs.Statements.{Works, works}
 use Rattle.cf_sequence_lowered.proofs.Walk.{AllPass, Fine}
 
@@ -68,16 +68,18 @@ module _ (T : Action → Type 0) (L : List ℤ → Type 0) (U : Core → Type 0)
       let t : SourceType = type_of_static statics x.name in
       subst (λ ss. AllPass T L B ss d) (sym (start-is classes statics x (constant-object statics x built))) (by t named (is_nothing x.start) refl)
     where
+      reaches : (b : Bool) (t : SourceType) → T (plain.static_object x.name t) → (rest : Plains) → AllPass T L B rest d → AllPass T L B (reached b t x.name rest) d
+      reaches true t named rest passed = ((omega arith, suits.neutral (plain.reach x.name) refl), passed)
+      reaches false t named rest passed = (suits.neutral (plain.reach x.name) refl, ((omega arith, named), passed))
+
       by : (t : SourceType) → T (plain.static_object x.name t) → (b : Bool) → is_nothing x.start ≡ b
           → AllPass T L B (if b then nothing else initialised classes t x.name x.start 0 nothing) d
       by t named true e = tt
       by t named false e =
           let named_as : SourceType = type_of_static statics x.name in
-          let element = constant-element named_as x.start (something-constant named_as x.start (constant-start statics x built) e) in (
-            suits.neutral (plain.reach x.name) refl,
-            (
-              (omega arith, named),
-              Fine.pass (element-sound T L U B p W suits classes named_as x.start element u d t 0 0 space) (more (act (plain.finish_static x.name)) nothing)
-                  (suits.neutral (plain.finish_static x.name) refl, tt),
-            ),
-          )
+          let last : Plains = more (act (plain.finish_static x.name)) nothing in
+          let passed : AllPass T L B last d = (suits.neutral (plain.finish_static x.name) refl, tt) in
+          reaches (binds x.start) t named (started classes t x.start 0 0 last)
+          (by-set named_as x.start (something-constant named_as x.start (constant-start statics x built) e)
+          (λ bound. Fine.pass (bound-sound T L U B p W suits classes x.start bound u d t 0 0 space) last passed)
+          (λ other constant. Fine.pass (element-sound T L U B p W suits classes named_as x.start (constant-element named_as x.start constant) u d t 0 0 space) last passed))

@@ -1,22 +1,23 @@
 -- Full expressions, initialisers and lists: what is so of each of their nodes makes their plain statements pass.
 use Rattle.std.proofs.Common.{◌≡◌, ℕ, suc, zero, ◌+◌, ◌-◌, ◌*◌, ◌<◌, ◌≤◌, Bool, true, false, ◌&&◌, ◌||◌, not, nat_lt, if◌then◌else◌, List, ◌++◌, length, reverse, refl, sym, ap, subst, arith}
-use Rattle.std.specs.Prelude.{ℤ, pos, Option}
+use Rattle.std.specs.Prelude.{ℤ, pos, Option, None}
 use Rattle.cf_base.proofs.Tests.{both}
 use Rattle.cf_core.specs.Types.{SourceType, is_class, is_array, element, plain as unqualified}
 use Rattle.cf_core.specs.Classes.{Class}
 use Rattle.cf_core.specs.Core as core
-use Rattle.cf_core.specs.Core.{Core, Cores, local_temporary, none}
+use Rattle.cf_core.specs.Core.{Core, Cores, no_temporary, local_temporary, static_temporary, none}
 use Rattle.cf_core.specs.Joined.{is_nothing}
 use Rattle.cf_core.specs.Nodes.{nodes, nodes_all}
 use Rattle.cf_core.specs.Objects.{count, costs_tick}
 use Rattle.cf_core.specs.Places.{is_reference}
 use Rattle.cf_plain.specs.Plain.{Register, Action, Plains, act, set, branch, loop, leave, nothing, more}
 use Rattle.cf_plain.specs.Plain as plain
-use Rattle.cf_sequence.specs.Built.{is_value, is_start, is_filling, is_initial, is_row, is_list, is_element, are_elements, is_held}
+use Rattle.cf_sequence.specs.Built.{is_value, is_start, is_filling, is_initial, is_row, is_list, is_element, are_elements, is_held, is_bound}
 use Rattle.cf_sequence.specs.Made.{Temporary, temporaries, width, width_all, held_by}
 use Rattle.cf_sequence.specs.Expressions.{Full, Destination, destination, value, whole, flags, ended, settled, elements, repeated, in_turn, part_in, part_type, parts_count, begun, built}
 use Rattle.cf_sequence.specs.Statements.{started}
 use Rattle.cf_sequence.proofs.Calling.{never, or-else}
+use Rattle.cf_sequence.proofs.Constants.{constant-value}
 use Rattle.cf_sequence.proofs.Elements.{no-tick}
 use Rattle.cf_sequence.proofs.Filling.{fill, started-is, element-holds}
 use Rattle.cf_sequence.proofs.Fulls.{nothing-is, held_at}
@@ -66,8 +67,8 @@ module _ (T : Action → Type 0) (L : List ℤ → Type 0) (U : Core → Type 0)
       (λ starts. or-else (is_nothing e) (is_value e) starts
       (λ blank. fine-by T L B d (started classes t e n k) (λ rest. rest) (λ rest. ap (λ e. started classes t e n k rest) (nothing-is e blank)) (fine-none T L B d))
       (λ is.
-      fine-whole d e is u (suc n) k (let a = Space.registers s in let b = Space.width s in omega arith) (Space.behind s) (λ m rest. rest) (λ m. settled e n m) (λ m low. fine-none T L B d)
-      (λ m low. fine-settled T L B d e n m (suits.neutral (plain.first n m) refl)) (destination n t)))
+      fine-whole d e is u (suc n) k (let a = Space.registers s in let b = Space.width s in omega arith) (Space.behind s) (λ m. settled e n m) (λ m rest. rest)
+      (λ m low. fine-settled T L B d e n m (suits.neutral (plain.first n m) refl)) (λ m low. fine-none T L B d) (destination n t)))
 
   -- ---- lists
 
@@ -161,6 +162,29 @@ module _ (T : Action → Type 0) (L : List ℤ → Type 0) (U : Core → Type 0)
         (or-else (is_initial e) (is_list t e) parts.0 (λ initial. initial-sound e initial first) (λ is. list-sound t e is first))
         (elements-sound t es parts.1 (each-right U (nodes e) (nodes_all es) u))
 
+  -- what binds a static reference
+  pub bound-sound : (e : Core) → is_bound e ≡ true → Each U (nodes e) → Sound e
+  bound-sound (core.bind no_temporary e) ok u = initial-sound (core.bind no_temporary e) (constant-value e ok) u
+  bound-sound (core.bind (static_temporary name) e) ok u =
+      λ d t n k s.
+      let is = constant-value e ok in
+      let a = Space.registers s in
+      let b = Space.width s in
+      let x : Full = record { first = k; base = suc n } in
+      let m : Register = suc n + width e in
+      let ts : List Temporary = temporaries false e k in
+      let last : Plains → Plains = λ rest. more (act (plain.first n m)) (ended x (reverse ts) rest) in
+      let placed : Plains → Plains = λ rest. more (set m (plain.finish_static name)) (settled e m (suc m) (last rest)) in
+      let r : Room B p x (suc m) k (nodes e) = record { registers = omega arith; flags = omega arith; begun = omega arith; behind = Space.behind s } in
+      fine-then T L B d (flags x ts) (λ rest. value classes x e None (suc m) k (placed rest)) (fine-flags T L U B p suits d x ts (ends T L U B p suits e is u.1 false x (suc m) k r))
+      (fine-then T L B d (value classes x e None (suc m) k) placed (good-value T L U B p suits classes e is u.1 d x None (suc m) k r)
+      (fine-then T L B d (λ rest. more (set m (plain.finish_static name)) rest) (λ rest. settled e m (suc m) (last rest))
+      (fine-set T L B d m (plain.finish_static name) (omega arith) (suits.neutral (plain.finish_static name) refl))
+      (fine-then T L B d (settled e m (suc m)) last (fine-settled T L B d e m (suc m) (suits.neutral (plain.first m (suc m)) refl))
+      (fine-then T L B d (λ rest. more (act (plain.first n m)) rest) (ended x (reverse ts)) (fine-act T L B d (plain.first n m) (suits.neutral (plain.first n m) refl))
+      (fine-ended T L U B p suits d x (reverse ts) (ends-reversed T L U B p suits e is u.1 x (suc m) k r))))))
+  bound-sound e ok u = never ok
+
   -- ---- the initialisers of locals
 
   pub element-sound : (t : SourceType) (e : Core) → is_element t e ≡ true → Each U (nodes e) → Sound e
@@ -183,8 +207,7 @@ module _ (T : Action → Type 0) (L : List ℤ → Type 0) (U : Core → Type 0)
             let b = Space.width s in
             let x : Full = record { first = k; base = 1 } in
             let ts : List Temporary = temporaries false e k in
-            let bound : Plains → Plains = λ rest. more (act (plain.first 0 n)) rest in
-            let last : Plains → Plains = λ rest. ended x (reverse ts) (bound rest) in
+            let last : Plains → Plains = λ rest. more (act (plain.first 0 n)) (ended x (reverse ts) rest) in
             let inside : Plains → Plains = λ rest. value classes x e (destination (suc n) v) (suc (suc n)) k (settled e (suc n) (suc (suc n)) (last rest)) in
             let named : Plains → Plains = λ rest. more (set n (plain.local j)) (inside rest) in
             let r : Room B p x (suc (suc n)) k (nodes e) = record { registers = omega arith; flags = omega arith; begun = omega arith; behind = Space.behind s } in
@@ -194,8 +217,8 @@ module _ (T : Action → Type 0) (L : List ℤ → Type 0) (U : Core → Type 0)
             (fine-then T L B d (value classes x e (destination (suc n) v) (suc (suc n)) k) (λ rest. settled e (suc n) (suc (suc n)) (last rest))
             (good-value T L U B p suits classes e is u.1 d x (destination (suc n) v) (suc (suc n)) k r)
             (fine-then T L B d (settled e (suc n) (suc (suc n))) last (fine-settled T L B d e (suc n) (suc (suc n)) (suits.neutral (plain.first (suc n) (suc (suc n))) refl))
-            (fine-then T L B d (ended x (reverse ts)) bound (fine-ended T L U B p suits d x (reverse ts) (ends-reversed T L U B p suits e is u.1 x (suc (suc n)) k r))
-            (fine-act T L B d (plain.first 0 n) (suits.neutral (plain.first 0 n) refl)))))));
+            (fine-then T L B d (λ rest. more (act (plain.first 0 n)) rest) (ended x (reverse ts)) (fine-act T L B d (plain.first 0 n) (suits.neutral (plain.first 0 n) refl))
+            (fine-ended T L U B p suits d x (reverse ts) (ends-reversed T L U B p suits e is u.1 x (suc (suc n)) k r)))))));
       }
   starts-held i t e ok u = never ok
 

@@ -5,15 +5,17 @@ use Rattle.std.specs.List.{list_all, list_any}
 use Rattle.cf_base.proofs.Tests.{both, all_of}
 use Rattle.cf_core.specs.Types.{Name, SourceType}
 use Rattle.cf_core.specs.Classes.{Class}
-use Rattle.cf_core.specs.Core.{Function, Static, CoreFile}
+use Rattle.cf_core.specs.Core as core
+use Rattle.cf_core.specs.Core.{Core, Function, Static, CoreFile}
 use Rattle.cf_core.specs.Joined.{is_nothing}
 use Rattle.cf_core.specs.Valid as valid
 use Rattle.cf_plain.specs.Plain.{Register, Plains, PlainFunction, PlainStatic, act, set, branch, nothing, more}
 use Rattle.cf_plain.specs.Plain as plain
-use Rattle.cf_sequence.specs.Built.{is_built_file, is_built_static, is_constant_start}
-use Rattle.cf_sequence.specs.Statements.{type_of_static, started, initialised}
+use Rattle.cf_sequence.specs.Built.{is_built_file, is_built_static, is_constant_element, is_constant_start, is_bound}
+use Rattle.cf_sequence.specs.Statements.{type_of_static, reached, started, initialised}
 use Rattle.cf_sequence.specs.Sequenced.{sequenced_start, sequenced_function, sequenced_static, sequenced_file}
-use Rattle.cf_sequence.proofs.Constants.{constant-start, something-constant, constant-object, start-is}
+use Rattle.cf_sequence.proofs.Calling.{never}
+use Rattle.cf_sequence.proofs.Constants.{constant-start, something-constant, by-set, element-binds, constant-object, start-is}
 use Rattle.cf_lower.specs.Constants.{at, know, nothing_known}
 use Rattle.cf_lower.specs.Functions.{owner_of}
 use Rattle.cf_lower_program.specs.Starts.{starts_known, owner_there, statics_known}
@@ -27,6 +29,11 @@ use Rattle.cf_sequence_lowered.proofs.KnownStarts.{Begins, known-begins}
 
 -- ---- what sets a static object
 
+-- what a static reference is bound to is not known
+bound-unknown : (f : Name) (t : SourceType) (e : Core) → is_bound e ≡ true → item_known f t e ≡ false
+bound-unknown f t (core.bind h e) ok = refl
+bound-unknown f t e ok = never ok
+
 module _ (x : Static) (t : SourceType) (good : start_is_known t x ≡ true) where
   abbrev owner : Name
   owner = owner_name x
@@ -38,15 +45,17 @@ module _ (x : Static) (t : SourceType) (good : start_is_known t x ≡ true) wher
   abbrev last : Plains
   last = more (act (plain.finish_static x.name)) nothing
 
-  start-known : (classes : List Class) → is_constant_start t x.start ≡ true → is_nothing x.start ≡ false → starts_known (started classes t x.start 0 0 last) owner placed ≡ true
-  start-known classes built something =
-      let known : item_known owner t x.start ≡ true = subst (λ b. b || item_known owner t x.start ≡ true) something good in
-      Steps.goes (Begins.steps (known-begins owner classes t x.start (something-constant t x.start built something) known 0 0 placed x.name 0 refl)) last
+  start-known : (classes : List Class) → is_constant_element t x.start ≡ true → item_known owner t x.start ≡ true → starts_known (started classes t x.start 0 0 last) owner placed ≡ true
+  start-known classes constant known = Steps.goes (Begins.steps (known-begins owner classes t x.start constant known 0 0 placed x.name 0 refl)) last
 
   initial-known : (classes : List Class) → is_constant_start t x.start ≡ true → (b : Bool) → is_nothing x.start ≡ b
       → starts_known (if b then nothing else initialised classes t x.name x.start 0 nothing) owner nothing_known ≡ true
   initial-known classes built true e = refl
-  initial-known classes built false e = start-known classes built e
+  initial-known classes built false e =
+      let known : item_known owner t x.start ≡ true = subst (λ b. b || item_known owner t x.start ≡ true) e good in
+      by-set t x.start (something-constant t x.start built e) (λ bound. never (sym (bound-unknown owner t x.start bound) ∙ known))
+      (λ other constant.
+      subst (λ b. starts_known (reached b t x.name (started classes t x.start 0 0 last)) owner nothing_known ≡ true) (sym (element-binds t x.start constant)) (start-known classes constant known))
 
 -- ---- files
 

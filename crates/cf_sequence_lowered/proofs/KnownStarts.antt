@@ -94,7 +94,7 @@ plain-start : (classes : List Class) (t : SourceType) (e : Core) → is_constant
 plain-start classes t e is n k rest =
     let x : Full = record { first = k; base = suc n } in
     let m : Register = suc n + width e in
-    ap (λ (ts : List Temporary). flags x ts (value classes x e (destination n t) m k (ended x (reverse ts) (settled e n m rest)))) (none-made e is false k)
+    ap (λ (ts : List Temporary). flags x ts (value classes x e (destination n t) m k (settled e n m (ended x (reverse ts) rest)))) (none-made e is false k)
     ∙ ap (λ b. value classes x e (destination n t) m k (if b then rest else more (act (plain.first n m)) rest)) (none-built e is)
 
 -- the first value of an object whose place is in register n

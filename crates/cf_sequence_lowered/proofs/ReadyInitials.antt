@@ -70,4 +70,4 @@ module _ (body : Body) (locals : List SourceType) (keeps : locals_of.Kept body.s
       (λ fills. runs-by locals body.result (started f.classes t e n k) (λ rest. more (act (fill e n)) rest) (started-is f.classes t e fills n k) (run-fill e fills n))
       (λ starts. or-else (is_nothing e) (is_value e) starts
       (λ blank. runs-by locals body.result (started f.classes t e n k) (λ rest. rest) (λ rest. ap (λ e. started f.classes t e n k rest) (nothing-is e blank)) (runs-none locals body.result))
-      (λ is. run-whole f e is (as_start t fit) u (suc n) k st (λ m rest. rest) (λ m. settled e n m) (λ m. runs-none locals body.result) (λ m. runs-settled locals body.result e n m) (destination n t)))
+      (λ is. run-whole f e is (as_start t fit) u (suc n) k st (λ m. settled e n m) (λ m rest. rest) (λ m. runs-settled locals body.result e n m) (λ m. runs-none locals body.result) (destination n t)))

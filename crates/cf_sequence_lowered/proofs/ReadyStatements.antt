@@ -81,8 +81,7 @@ module _ (body : Body) (locals : List SourceType) (keeps : locals_of.Kept body.s
             let x : Full = record { first = k; base = 1 } in
             let ts : List Temporary = temporaries false e k in
             let span : Span = record { low = 1; top = 1 + width e } in
-            let bound : Plains → Plains = λ rest. more (act (plain.first 0 n)) rest in
-            let last : Plains → Plains = λ rest. ended x (reverse ts) (bound rest) in
+            let last : Plains → Plains = λ rest. more (act (plain.first 0 n)) (ended x (reverse ts) rest) in
             let inside : Plains → Plains = λ rest. value f.classes x e (destination (suc n) v) (suc (suc n)) k (settled e (suc n) (suc (suc n)) (last rest)) in
             let placed : Plains → Plains = λ rest. more (set n (plain.local j)) (inside rest) in
             (chain (flags x ts) (λ rest. more (set (suc n) (plain.declare j v)) (placed rest)) (runs-flags locals body.result x ts)
@@ -92,7 +91,7 @@ module _ (body : Body) (locals : List SourceType) (keeps : locals_of.Kept body.s
             (run-value locals body.result span f.classes scope keeps named e is (as_start v parts.1) u.1 x (destination (suc n) v) (suc (suc n)) k
             (full-room locals body.result e 1 k (suc (suc n)) (omega arith) st))
             (chain (settled e (suc n) (suc (suc n))) last (runs-settled locals body.result e (suc n) (suc (suc n)))
-            (chain (ended x (reverse ts)) bound (runs-ended locals body.result x (reverse ts)) (runs-act locals body.result (plain.first 0 n) (λ g. refl)))))))) g i rest success;
+            (chain (λ rest. more (act (plain.first 0 n)) rest) (ended x (reverse ts)) (runs-act locals body.result (plain.first 0 n) (λ g. refl)) (runs-ended locals body.result x (reverse ts)))))))) g i rest success;
       }
   starts-held i t e ok fit u = never ok
 

@@ -15,13 +15,13 @@ use Rattle.cf_plain.specs.Plain as plain
 use Rattle.cf_sequence.specs.Built.{is_value, is_start, is_condition, is_element, is_held, is_statement, is_statement_or, declares_last, are_cases, are_statements, next_local, is_body, is_built_static}
 use Rattle.cf_sequence.specs.Made.{Local, width, width_maybe, declared, declared_all, numbered}
 use Rattle.cf_sequence.specs.Expressions.{value, whole, finished, used}
-use Rattle.cf_sequence.specs.Statements.{Inside, declares, opened, in_loop, in_switch, held, stepped, started, made, passing, passes_local, passed, looping, statement, statement_or, statements, type_of_static, initialised}
+use Rattle.cf_sequence.specs.Statements.{Inside, declares, opened, in_loop, in_switch, held, stepped, started, made, passing, passes_local, passed, looping, statement, statement_or, statements, type_of_static, binds, reached, initialised}
 use Rattle.cf_sequence.specs.Sequenced.{inside, flowed_off, sequenced_body, sequenced_start}
 use Rattle.cf_sequence.proofs.Calling.{never, or-else}
-use Rattle.cf_sequence.proofs.Constants.{constant-object, constant-start, constant-element, something-constant, start-is}
+use Rattle.cf_sequence.proofs.Constants.{constant-object, constant-start, constant-element, something-constant, by-set, start-is}
 use Rattle.cf_sequence.proofs.Fulls.{nothing-is}
 use Rattle.cf_sequence.proofs.Labels.{passing-past}
-use Rattle.cf_sequence_lowered.proofs.Weights.{mass, nodes_weight, weight-two, Light, light-none, light-then, light-more, light-by, light-set, light-act, light-first, light-last, light-finished, light-whole, light-element, light-held}
+use Rattle.cf_sequence_lowered.proofs.Weights.{mass, nodes_weight, weight-two, Light, light-none, light-then, light-more, light-by, light-set, light-act, light-first, light-last, light-finished, light-whole, light-element, light-bound, light-held}
 
 negated : (b : Bool) → not b ≡ true → b ≡ false
 negated true e = never e
@@ -252,10 +252,18 @@ module _ (g : ℕ → ℕ) where
   pub light-static : (classes : List Class) (statics : List Static) (x : Static) → is_built_static statics x ≡ true → mass g (sequenced_start classes statics x) ≤ nodes_weight g (nodes x.start)
   light-static classes statics x built = subst (λ ss. mass g ss ≤ nodes_weight g (nodes x.start)) (sym (start-is classes statics x (constant-object statics x built))) (by (type_of_static statics x.name) (is_nothing x.start) refl)
     where
+      light-reached : (b : Bool) (t : SourceType) (rest : Plains) → mass g (reached b t x.name rest) ≤ mass g rest
+      light-reached true t rest = omega arith
+      light-reached false t rest = omega arith
+
       by : (t : SourceType) (b : Bool) → is_nothing x.start ≡ b → mass g (if b then nothing else initialised classes t x.name x.start 0 nothing) ≤ nodes_weight g (nodes x.start)
       by t true e = omega arith
       by t false e =
           let named_as : SourceType = type_of_static statics x.name in
-          let element = constant-element named_as x.start (something-constant named_as x.start (constant-start statics x built) e) in
-          let a = Light.light (light-element g classes named_as x.start element t 0 0) (more (act (plain.finish_static x.name)) nothing) in
+          let last : Plains = more (act (plain.finish_static x.name)) nothing in
+          let set_by : Light g (nodes_weight g (nodes x.start)) (started classes t x.start 0 0) =
+          by-set named_as x.start (something-constant named_as x.start (constant-start statics x built) e) (λ bound. light-bound g classes x.start bound t 0 0)
+          (λ other constant. light-element g classes named_as x.start (constant-element named_as x.start constant) t 0 0) in
+          let a = Light.light set_by last in
+          let b = light-reached (binds x.start) t (started classes t x.start 0 0 last) in
           omega arith

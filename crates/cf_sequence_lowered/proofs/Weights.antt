@@ -5,18 +5,19 @@ use Rattle.cf_base.proofs.Tests.{both}
 use Rattle.cf_core.specs.Types.{SourceType, parameters, result, is_class, is_array, element, plain as unqualified}
 use Rattle.cf_core.specs.Classes.{Class}
 use Rattle.cf_core.specs.Core as core
-use Rattle.cf_core.specs.Core.{Core, Cores, no_temporary, local_temporary, none, absent}
+use Rattle.cf_core.specs.Core.{Core, Cores, no_temporary, local_temporary, static_temporary, none, absent}
 use Rattle.cf_core.specs.Joined.{is_nothing}
 use Rattle.cf_core.specs.Nodes.{nodes, nodes_all}
 use Rattle.cf_core.specs.Objects.{count, costs_tick}
 use Rattle.cf_core.specs.Places.{is_reference}
 use Rattle.cf_plain.specs.Plain.{Register, Action, Plain, Plains, PlainParts, act, set, branch, loop, switch, parts, leave, nothing, more, no_parts, part}
 use Rattle.cf_plain.specs.Plain as plain
-use Rattle.cf_sequence.specs.Built.{is_value, are_values, are_arguments, is_chain, is_start, is_filling, is_initial, is_row, is_list, is_element, are_elements, is_held}
+use Rattle.cf_sequence.specs.Built.{is_value, are_values, are_arguments, is_chain, is_start, is_filling, is_initial, is_row, is_list, is_element, are_elements, is_held, is_bound}
 use Rattle.cf_sequence.specs.Made.{Local, Temporary, temporaries, width, width_all, numbers}
 use Rattle.cf_sequence.specs.Expressions.{Full, flag, Destination, destination, value, values, arguments, whole, flags, ended, finished, settled, builds, result_register, used, elements, repeated, in_turn, part_in, part_type, parts_count, begun, built}
 use Rattle.cf_sequence.specs.Statements.{started}
 use Rattle.cf_sequence.proofs.Calling.{never, or-else}
+use Rattle.cf_sequence.proofs.Constants.{constant-value}
 use Rattle.cf_sequence.proofs.Filling.{fill, started-is}
 use Rattle.cf_sequence.proofs.Fulls.{nothing-is, held_at}
 
@@ -333,7 +334,7 @@ module _ (g : ℕ → ℕ) where
         (λ blank. light-more 0 (nodes_weight (nodes e)) (started classes t e n k) (omega arith)
         (light-by 0 (started classes t e n k) (λ rest. rest) (λ rest. ap (λ e. started classes t e n k rest) (nothing-is e blank)) light-none))
         (λ is. light-more (nodes_weight (nodes e) + 0) (nodes_weight (nodes e)) (started classes t e n k) (omega arith)
-        (light-whole e is (suc n) k 0 (λ m rest. rest) (λ m. settled e n m) (λ m. light-none) (λ m. light-settled e n m) (destination n t))))
+        (light-whole e is (suc n) k 0 (λ m. settled e n m) (λ m rest. rest) (λ m. light-settled e n m) (λ m. light-none) (destination n t))))
 
     light-part : (n q : Register) (t : SourceType) (i : ℕ) → Light 0 (part_in n q t i)
     light-part n q t i = by (is_array t)
@@ -412,6 +413,29 @@ module _ (g : ℕ → ℕ) where
     pub light-element : (t : SourceType) (e : Core) → is_element t e ≡ true → LightStart e
     light-element t e ok = or-else (is_initial e) (is_list t e) ok (λ initial. light-initial e initial) (λ is. light-list t e is)
 
+    -- what binds a static reference
+    pub light-bound : (e : Core) → is_bound e ≡ true → LightStart e
+    light-bound (core.bind no_temporary e) ok t n k = light-initial (core.bind no_temporary e) (constant-value e ok) t n k
+    light-bound (core.bind (static_temporary name) e) ok t n k =
+        let is : is_value e ≡ true = constant-value e ok in
+        let m : Register = suc n + width e in
+        let x : Full = record { first = k; base = suc n } in
+        let ts : List Temporary = temporaries false e k in
+        record {
+          light = λ rest.
+              let after = ended x (reverse ts) rest in
+              let last = more (act (plain.first n m)) after in
+              let placed = more (set m (plain.finish_static name)) (settled e m (suc m) last) in
+              let a = Light.light (light-flags x ts) (value classes x e None (suc m) k placed) in
+              let b = Light.light (light-value e is x None (suc m) k) placed in
+              let c = Light.light (light-set m (plain.finish_static name)) (settled e m (suc m) last) in
+              let d = Light.light (light-settled e m (suc m)) last in
+              let h = Light.light (light-act (plain.first n m)) after in
+              let j = Light.light (light-ended x (reverse ts)) rest in
+              omega arith;
+        }
+    light-bound e ok t n k = never ok
+
     pub light-held : (i : ℕ) (e : Core) → is_held i e ≡ true → (t : SourceType) (k : ℕ) → Light (nodes_weight (nodes e)) (started classes t e 0 k)
     light-held i (core.bind (local_temporary j v) e) ok t k =
         let is : is_value e ≡ true = (both (not (is_reference v)) (is_value e) (both (nat_lt i j) (not (is_reference v) && is_value e) ok).1).1 in
@@ -420,13 +444,14 @@ module _ (g : ℕ → ℕ) where
         let ts : List Temporary = temporaries false e k in
         record {
           light = λ rest.
-              let bound = more (act (plain.first 0 n)) rest in
-              let last = ended x (reverse ts) bound in
+              let after = ended x (reverse ts) rest in
+              let last = more (act (plain.first 0 n)) after in
               let inside = value classes x e (destination (suc n) v) (suc (suc n)) k (settled e (suc n) (suc (suc n)) last) in
               let a = Light.light (light-flags x ts) (more (set (suc n) (plain.declare j v)) (more (set n (plain.local j)) inside)) in
               let b = Light.light (light-value e is x (destination (suc n) v) (suc (suc n)) k) (settled e (suc n) (suc (suc n)) last) in
               let c = Light.light (light-settled e (suc n) (suc (suc n))) last in
-              let d = Light.light (light-ended x (reverse ts)) bound in
+              let d = Light.light (light-act (plain.first 0 n)) after in
+              let h = Light.light (light-ended x (reverse ts)) rest in
               omega arith;
         }
     light-held i e ok t k = never ok

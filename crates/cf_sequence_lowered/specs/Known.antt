@@ -4,7 +4,7 @@ use Rattle.std.specs.Prelude.{zero, suc, Bool, true, false, ◌&&◌, ◌||◌, 
 use Rattle.std.specs.List.{list_all}
 use Rattle.cf_base.specs.declared.kind.Kind.TheVariants.{Char}
 use Rattle.cf_core.specs.Types.{Name, SourceType, integer, array, plain as unqualified, element}
-use Rattle.cf_core.specs.Core.{Core, Cores, none, more, number, text, static_object, function, address, dereference, decay, index, pointer_operate, convert, operate, unary, logical_not, logical_and, logical_or, conditional, list, Static, CoreFile}
+use Rattle.cf_core.specs.Core.{Core, Cores, none, more, number, text, static_object, function, address, dereference, decay, index, pointer_operate, convert, operate, unary, logical_not, logical_and, logical_or, conditional, list, bind, Static, CoreFile}
 use Rattle.cf_core.specs.Joined.{is_nothing}
 use Rattle.cf_lower_layout.specs.Sorts.{sort_of}
 use Rattle.cf_plain.specs.Plain.{Register}
@@ -49,7 +49,7 @@ module _ (f : Name) where
   core_known (conditional c a b) = chosen (holds_truth (core_known c)) unknown (core_known a) (core_known b)
   core_known e = unknown
 
-  -- whether that of each node is known that is evaluated; a list is none of these
+  -- whether that of each node is known that is evaluated; a list is none of these, and what a static reference is bound to is not lowered yet
   abbrev pub all_known : Core → Bool
   all_known (address e) = all_known e
   all_known (dereference e) = all_known e
@@ -64,6 +64,7 @@ module _ (f : Name) where
   all_known (logical_or a b) = all_known a && chosen (holds_truth (core_known a)) false true (all_known b)
   all_known (conditional c a b) = all_known c && chosen (holds_truth (core_known c)) false (all_known a) (all_known b)
   all_known (list es last) = false
+  all_known (bind h e) = false
   all_known e = true
 
   -- Whether what begins an object of this type is known: a value is what a scalar of the type holds, and an element of a list is begun as an object is (8.4.1).

@@ -113,7 +113,7 @@ unfoldable pub started : Initial → Piece → ℕ → ℕ → Writing → Writi
 started does_nothing p t n w = w
 started (fills a) p t n w = act (a n) w
 started (lists f) p t n w = f t n (behind_flags (suc n) p) w
-started gives p t n w = act (action.First n (behind_flags (suc n) p)) (left_behind (suc n) p w (entered (suc n) p w))
+started gives p t n w = left_behind (suc n) p w (act (action.First n (behind_flags (suc n) p)) (entered (suc n) p w))
 
 -- The place of the element of this number comes into register m: that of its array is in register n (8.4.1).
 unfoldable pub element_placed : ℕ → ℕ → ℕ → Writing → Writing
@@ -123,12 +123,15 @@ element_placed n m i w = set m (action.Index m (suc m)) (set (suc m) (action.Num
 unfoldable pub declared : ℕ → ℕ → Initial → Option Open → Piece → Body → Body
 declared i t initial held p b = opened i t (held_too held (on (λ w. started initial p t 0 (set 0 (action.Declare i t) w)) b))
 
--- A static object with its initialiser, if it has one: control reaches it, and its place comes into register 0 (6.7, 8.4).
-unfoldable pub placed : List ℕ → ℕ → Initial → Piece → Writing → Writing
-placed name t initial p w =
-    if is_blank initial
-    then w
-    else act (action.FinishStatic name) (started initial p t 0 (set 0 (action.Static name t) (act (action.Reach name) w)))
+-- Control reaches a static object, and its place comes into register 0: that of a reference itself, where its initialiser is one's (6.7, 8.4.3).
+unfoldable pub reached : List ℕ → ℕ → Bool → Writing → Writing
+reached name t binds w =
+    if binds then set 0 (action.Reach name) w else set 0 (action.Static name t) (act (action.Reach name) w)
+
+-- a static object with its initialiser, if it has one (8.4)
+unfoldable pub placed : List ℕ → ℕ → Bool → Initial → Piece → Writing → Writing
+placed name t binds initial p w =
+    if is_blank initial then w else act (action.FinishStatic name) (started initial p t 0 (reached name t binds w))
 
 -- Statements.
 

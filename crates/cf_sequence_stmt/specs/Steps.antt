@@ -1,5 +1,5 @@
 -- What is written for statements, node by node.
-use Rattle.std.specs.Prelude.{ℕ, zero, suc, ◌-◌, Bool, false, ◌&&◌, ◌||◌, nat_lt, if◌then◌else◌, List, [], ◌∷◌, ◌++◌, length, Option, Some, None, is_some}
+use Rattle.std.specs.Prelude.{ℕ, zero, suc, ◌-◌, Bool, true, false, ◌&&◌, ◌||◌, nat_lt, if◌then◌else◌, List, [], ◌∷◌, ◌++◌, length, Option, Some, None, is_some}
 use Rattle.cf_types.specs.Table.{Table}
 use Rattle.cf_core.specs.declared.operators.LoopForm.{LoopForm}
 use Rattle.cf_core.specs.declared.operators.LoopForm.TheVariants as form
@@ -160,6 +160,17 @@ of_holder h = None
 abbrev pub held_step : Core-F Step Step → Option Open
 held_step (Core-F.Bind at h e) = of_holder h
 held_step other = None
+
+-- Whether an initialiser is a reference's.
+abbrev pub binds_step : Core-F Bool Bool → Bool
+binds_step (Core-F.Bind at h e) = true
+binds_step other = false
+
+abbrev pub binds_part : PartStart-F Bool Bool → Bool
+binds_part x = x.start
+
+abbrev pub binds : Node → Bool
+binds = fold-Core Bool Bool binds_step binds_part
 
 -- Lists (8.4.1).
 

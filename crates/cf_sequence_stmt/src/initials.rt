@@ -26,7 +26,7 @@ fn is_blank(e: &Core) -> bool
     matches!(e, Core::Blank { .. })
 }
 
-/// Writes the initialiser of the place in this register that gives this value.
+/// Writes the initialiser of the place in this register that gives this value, which is stored before the temporaries end.
 #[tactic(auto, unfolding(crate::specs::Bodies::started, crate::specs::Bodies::left_behind))]
 fn settled(unit: &CoreUnit, e: &Core, ty: TyId, n: u32, w: &mut Writing) -> Result<(), Memory>
     requires { are_known (tables_of unit.now) e.now ≡ true }
@@ -34,11 +34,11 @@ fn settled(unit: &CoreUnit, e: &Core, ty: TyId, n: u32, w: &mut Writing) -> Resu
 {
     let flags = behind(n)?;
     let entered = enter(unit, e, flags, w)?;
-    end_all(entered.full, entered.made.as_slice(), w)?;
     w.act(Action::First {
         place: n,
         value: entered.register,
-    })
+    })?;
+    end_all(entered.full, entered.made.as_slice(), w)
 }
 
 /// Writes the initialiser of an object of this type whose place is in this register: it does nothing, fills the object by itself, starts its
@@ -229,20 +229,38 @@ pub fn declared(unit: &CoreUnit, e: &Core, local: u32, ty: TyId, b: &mut Body) -
     b.declare(local, ty)
 }
 
+/// Whether an initialiser is a reference's.
+fn binds(e: &Core) -> bool
+    ensures { result ≡ steps.binds e.now }
+{
+    matches!(e, Core::Bind { .. })
+}
+
+/// Writes that control reaches a static object, and its place into register 0: a reference's own, where its initialiser is one's (6.7, 8.4.3).
+#[tactic(auto, unfolding(crate::specs::Bodies::reached))]
+fn reached(x: &CoreStatic, w: &mut Writing) -> Result<(), Memory>
+    ensures { OnOk result (w.new ≡ spec.reached x.now.name x.now.ty (steps.binds x.now.start) w.old) }
+{
+    let name = copied(w.alloc, &x.name)?;
+    if binds(&x.start) {
+        return w.set(0, Action::Reach { name });
+    }
+    w.act(Action::Reach { name })?;
+    let name = copied(w.alloc, &x.name)?;
+    w.set(0, Action::Static { name, ty: x.ty })
+}
+
 /// Writes what sets a static object, if it has an initialiser (6.7, 8.4).
 #[tactic(auto, unfolding(crate::specs::Bodies::placed))]
 pub fn placed(unit: &CoreUnit, x: &CoreStatic, w: &mut Writing) -> Result<(), Memory>
     requires known { are_known (tables_of unit.now) x.now.start ≡ true }
     requires typed { x.now.ty < length unit.now.types.types }
-    ensures { OnOk result (w.new ≡ spec.placed x.now.name x.now.ty (step unit.now.types x.now.start).initial (step unit.now.types x.now.start).piece w.old) }
+    ensures { OnOk result (w.new ≡ spec.placed x.now.name x.now.ty (steps.binds x.now.start) (step unit.now.types x.now.start).initial (step unit.now.types x.now.start).piece w.old) }
 {
     if is_blank(&x.start) {
         return Ok(());
     }
-    let name = copied(w.alloc, &x.name)?;
-    w.act(Action::Reach { name })?;
-    let name = copied(w.alloc, &x.name)?;
-    w.set(0, Action::Static { name, ty: x.ty })?;
+    reached(x, w)?;
     started(unit, &x.start, x.ty, 0, w)?;
     let name = copied(w.alloc, &x.name)?;
     w.act(Action::FinishStatic { name })

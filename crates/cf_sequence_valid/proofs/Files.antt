@@ -21,16 +21,16 @@ use Rattle.cf_plain.specs.Valid as checks
 use Rattle.cf_sequence.specs.Built.{is_built_file, is_built_function, is_built_static, is_body, is_plain_role, is_chain, is_none, is_statement, declares_last, has_mark}
 use Rattle.cf_sequence.specs.Made.{Local, makes, added, declared, numbered}
 use Rattle.cf_sequence.specs.Expressions.{finished}
-use Rattle.cf_sequence.specs.Statements.{type_of_static, initialised}
+use Rattle.cf_sequence.specs.Statements.{type_of_static, binds, reached, initialised}
 use Rattle.cf_sequence.specs.Sequenced.{inside, outside, flowed_off, sequenced_body, sequenced_function, sequenced_start, sequenced_static, sequenced_file}
 use Rattle.cf_sequence.proofs.Calling.{never}
-use Rattle.cf_sequence.proofs.Constants.{constant-element, constant-object, constant-start, something-constant, start-adds, start-is}
+use Rattle.cf_sequence.proofs.Constants.{constant-element, constant-object, constant-start, something-constant, by-set, start-adds, start-is}
 use Rattle.cf_sequence.proofs.OwnNames.{is_own}
 use Rattle.cf_sequence_valid.proofs.Serves.{either-true}
 use Rattle.cf_sequence_valid.proofs.Fine.{Fine, fine-finished}
 use Rattle.cf_sequence_valid.proofs.Stands.{stand-added, Stand, stand-behind, still-there, are_there, is_there, there-two, numbered-there}
 use Rattle.cf_sequence_valid.proofs.Values.{Kept}
-use Rattle.cf_sequence_valid.proofs.Lists.{Sound, element-sound}
+use Rattle.cf_sequence_valid.proofs.Lists.{Sound, element-sound, bound-sound}
 use Rattle.cf_sequence_valid.proofs.Statements.{Works, works}
 
 negated : (b : Bool) → not b ≡ true → b ≡ false
@@ -192,15 +192,21 @@ module _ (file : CoreFile) where
         either-true (is_some x.owner && is_nothing x.start) ((typing outer x.start).start x.type) there.1
         (λ none. never (sym there_is ∙ (both (is_some x.owner) (is_nothing x.start) none).1)) (λ ok. ok)
 
+    reached-fit : (b : Bool) (rest : Plains) → checks.all_fit [] false false rest ≡ true → checks.all_fit [] false false (reached b T x.name rest) ≡ true
+    reached-fit true rest ok = ok
+    reached-fit false rest ok = ok
+
     set-fits : (b : Bool) → is_nothing x.start ≡ b
         → checks.all_fit [] false false (if b then nothing else initialised file.classes T x.name x.start 0 nothing) ≡ true
     set-fits true e = refl
     set-fits false e =
-        let element = constant-element T x.start (something-constant T x.start (constant-start file.statics x built) e) in
-        Fine.fit
-        (Sound.code (element-sound alone [] (record { kept = λ i t at. absurd (cc) }) T x.type x.start element (start-typed e)) false false (outside file.classes file.statics) T 0 0
-        (subst (Stand [] 0) (sym adds_none) tt))
-        (plain.more (plain.act (plain.finish_static x.name)) nothing) refl
+        let set = something-constant T x.start (constant-start file.statics x built) e in
+        let none_kept : Kept outer [] = record { kept = λ i t at. absurd (cc) } in
+        let sound =
+        by-set T x.start set (λ bound. bound-sound alone [] none_kept x.type x.start bound (start-typed e))
+        (λ other constant. element-sound alone [] none_kept T x.type x.start (constant-element T x.start constant) (start-typed e)) in
+        reached-fit (binds x.start) _
+        (Fine.fit (Sound.code sound false false (outside file.classes file.statics) T 0 0 (subst (Stand [] 0) (sym adds_none) tt)) (plain.more (plain.act (plain.finish_static x.name)) nothing) refl)
 
     pub static-fits : checks.static_fits (sequenced_file file) (sequenced_static file.classes file.statics x) ≡ true
     static-fits =

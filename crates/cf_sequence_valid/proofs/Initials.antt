@@ -66,7 +66,7 @@ module _ (body : Body) (locals : List SourceType) (keeps : Kept body.scope local
       (λ fills. fine-by locals (started f.classes t e n k) (λ rest. more (act (fill e n)) rest) (started-is f.classes t e fills n k) (fine-fill e fills n))
       (λ starts. either-true (is_nothing e) (is_value e) starts
       (λ blank. fine-by locals (started f.classes t e n k) (λ rest. rest) (λ rest. ap (λ e. started f.classes t e n k rest) (nothing-is e blank)) (fine-none locals))
-      (λ is. fine-whole f e is (s is) (suc n) k st (λ m rest. rest) (λ m. settled e n m) (λ m. fine-none locals) (λ m. fine-settled locals e n m) (destination n t)))
+      (λ is. fine-whole f e is (s is) (suc n) k st (λ m. settled e n m) (λ m rest. rest) (λ m. fine-settled locals e n m) (λ m. fine-none locals) (destination n t)))
 
   pub complete-start : (e : Core) → is_start e ≡ true → (is_value e ≡ true → Serves (typing scope e)) → are_complete (added (nodes e)) ≡ true
   complete-start e ok s =

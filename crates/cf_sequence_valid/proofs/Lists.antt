@@ -7,7 +7,7 @@ use Rattle.std.proofs.lemmas.Bool.{lt-ltb}
 use Rattle.cf_base.proofs.Tests.{both, all_of}
 use Rattle.cf_core.specs.Types.{SourceType, is_class}
 use Rattle.cf_core.specs.Core as core
-use Rattle.cf_core.specs.Core.{Core, Cores, MaybeCore, local_temporary, none, absent, given}
+use Rattle.cf_core.specs.Core.{Core, Cores, MaybeCore, no_temporary, local_temporary, static_temporary, none, absent, given}
 use Rattle.cf_core.specs.Places.{is_reference}
 use Rattle.cf_core.specs.Nodes.{nodes, nodes_all}
 use Rattle.cf_core.specs.Typing.{Scope, Typing, same_type}
@@ -16,7 +16,7 @@ use Rattle.cf_core.specs.Valid.{Body, is_complete, fits}
 use Rattle.cf_plain.specs.Plain.{Register, Plains, act, set, branch, loop, switch, leave, continue, give, nothing, more}
 use Rattle.cf_plain.specs.Plain as plain
 use Rattle.cf_plain.specs.Valid.{is_of}
-use Rattle.cf_sequence.specs.Built.{is_value, is_filling, is_initial, is_held}
+use Rattle.cf_sequence.specs.Built.{is_value, is_filling, is_initial, is_held, is_bound}
 use Rattle.cf_sequence.specs.Made.{Local, Temporary, temporaries, added, width, held_by}
 use Rattle.cf_sequence.specs.Expressions.{Full, Destination, destination, value, flags, ended, settled}
 use Rattle.cf_sequence.specs.Statements.{Inside, started}
@@ -24,7 +24,7 @@ use Rattle.cf_sequence.proofs.Calling.{never}
 use Rattle.cf_sequence.proofs.Filling.{fill, filling-adds, started-is}
 use Rattle.cf_sequence.proofs.Fulls.{held_at}
 use Rattle.cf_sequence_valid.proofs.Fine.{Fine, fine-none, fine-then, fine-by, fine-act, fine-set, fine-loop, fine-settled, fine-flags, fine-ended}
-use Rattle.cf_sequence_valid.proofs.Serves.{as_start, bound-parts, either-true}
+use Rattle.cf_sequence_valid.proofs.Serves.{as_start, bound-parts, static-starts, either-true}
 use Rattle.cf_sequence_valid.proofs.Stands.{Stand, stand-left, stand-right, are_there}
 use Rattle.cf_sequence_valid.proofs.Temporaries.{ends-there}
 use Rattle.cf_sequence_valid.proofs.Values.{Kept, Good, good-value, complete-two}
@@ -38,6 +38,7 @@ use Rattle.std.proofs.Common.{zero, ◌-◌, ◌∷◌}
 use Rattle.cf_sequence.specs.Built.{is_row, is_list, is_element, are_elements}
 use Rattle.cf_sequence.specs.Made.{width_all}
 use Rattle.cf_sequence.specs.Expressions.{elements, repeated, in_turn, part_in, part_type, parts_count, begun, built}
+use Rattle.cf_sequence.proofs.Constants.{constant-value}
 use Rattle.cf_sequence.proofs.Filling.{element-holds}
 use Rattle.cf_sequence_valid.proofs.Initials.{expression-good, fine-fill, fine-started, complete-initial}
 
@@ -178,6 +179,28 @@ module _ (body : Body) (locals : List SourceType) (keeps : Kept body.scope local
       let begins : Begins e = record { type = t; starts = fit } in
       either-true (is_initial e) (is_list u e) ok (λ initial. initial-sound e initial begins) (λ is. list-sound u e is begins)
 
+  -- what binds a static reference
+  pub bound-sound : (t : SourceType) (e : Core) → is_bound e ≡ true → (typing scope e).start t ≡ true → Sound e
+  bound-sound t (core.bind no_temporary e) ok fit = initial-sound (core.bind no_temporary e) (constant-value e ok) (record { type = t; starts = fit })
+  bound-sound t (core.bind (static_temporary name) e) ok fit =
+      let is = constant-value e ok in
+      let typed = static-starts scope name (typing scope e) t fit in
+      record {
+        complete = Good.complete (good-value [] scope locals keeps e is (as_start typed.0 typed.1));
+        code = λ b c f t n k st.
+            let x : Full = record { first = k; base = suc n } in
+            let m : Register = suc n + width e in
+            let ts : List Temporary = temporaries false e k in
+            let last : Plains → Plains = λ rest. more (act (plain.first n m)) (ended x (reverse ts) rest) in
+            let keeps_place : Plains → Plains = λ rest. more (set m (plain.finish_static name)) (settled e m (suc m) (last rest)) in
+            fine-then locals (flags x ts) (λ rest. value f.classes x e None (suc m) k (keeps_place rest)) (fine-flags locals x ts)
+            (fine-then locals (value f.classes x e None (suc m) k) keeps_place (Good.code (expression-good body locals keeps f e is (as_start typed.0 typed.1)) b c x None (suc m) k st)
+            (fine-then locals (λ rest. more (set m (plain.finish_static name)) rest) (λ rest. settled e m (suc m) (last rest)) (fine-set locals m (plain.finish_static name) refl)
+            (fine-then locals (settled e m (suc m)) last (fine-settled locals e m (suc m))
+            (fine-then locals (λ rest. more (act (plain.first n m)) rest) (ended x (reverse ts)) (fine-act locals (plain.first n m) refl) (fine-ended locals x (reverse ts) (ends-there locals e is k st))))));
+      }
+  bound-sound t e ok fit = never ok
+
   -- ---- the initialisers of locals
 
   -- a local that is declared, as a type that may differ in const
@@ -221,8 +244,7 @@ module _ (body : Body) (locals : List SourceType) (keeps : Kept body.scope local
         code = λ b c f k st.
             let x : Full = record { first = k; base = 1 } in
             let ts : List Temporary = temporaries false e k in
-            let bound : Plains → Plains = λ rest. more (act (plain.first 0 n)) rest in
-            let last : Plains → Plains = λ rest. ended x (reverse ts) (bound rest) in
+            let last : Plains → Plains = λ rest. more (act (plain.first 0 n)) (ended x (reverse ts) rest) in
             let inner : Plains → Plains = λ rest. value f.classes x e (destination (suc n) u) (suc (suc n)) k (settled e (suc n) (suc (suc n)) (last rest)) in
             let named : Plains → Plains = λ rest. more (set n (plain.local j)) (inner rest) in
             fine-then locals (flags x ts) (λ rest. more (set (suc n) (plain.declare j u)) (named rest)) (fine-flags locals x ts)
@@ -231,7 +253,7 @@ module _ (body : Body) (locals : List SourceType) (keeps : Kept body.scope local
             (fine-then locals (value f.classes x e (destination (suc n) u) (suc (suc n)) k) (λ rest. settled e (suc n) (suc (suc n)) (last rest))
             (Good.code (expression-good body locals keeps f e is (as_start u parts.1)) b c x (destination (suc n) u) (suc (suc n)) k st)
             (fine-then locals (settled e (suc n) (suc (suc n))) last (fine-settled locals e (suc n) (suc (suc n)))
-            (fine-then locals (ended x (reverse ts)) bound (fine-ended locals x (reverse ts) (ends-there locals e is k st)) (fine-act locals (plain.first 0 n) refl))))));
+            (fine-then locals (λ rest. more (act (plain.first 0 n)) rest) (ended x (reverse ts)) (fine-act locals (plain.first 0 n) refl) (fine-ended locals x (reverse ts) (ends-there locals e is k st)))))));
       }
   starts-held i t e ok fit = never ok
 

@@ -1,6 +1,6 @@
 -- What a valid node is used for tells that its parts are valid: they are places, values, constants or initialisers.
 use Rattle.std.proofs.Common.{◌≡◌, Bool, true, false, ◌&&◌, ◌||◌, not, if◌then◌else◌, refl, sym, subst, ◌∙◌}
-use Rattle.std.specs.Prelude.{ℕ, ℤ, Option, Some, None, is_some, slice_get}
+use Rattle.std.specs.Prelude.{ℕ, ℤ, Option, Some, None, is_some, slice_get, find, bytes_eq}
 use Rattle.cf_base.specs.declared.kind.Kind.{Kind}
 use Rattle.cf_base.specs.declared.kind.Kind.TheVariants.{Int, ULong}
 use Rattle.cf_base.specs.declared.arith.Arith.{Arith}
@@ -8,12 +8,12 @@ use Rattle.cf_base.proofs.Tests.{both}
 use Rattle.cf_types.specs.Operators.{is_shift}
 use Rattle.cf_core.specs.declared.operators.PointerOperator.{PointerOperator}
 use Rattle.cf_core.specs.declared.operators.PointerOperator.TheVariants as ptr
-use Rattle.cf_core.specs.Types.{SourceType, void, integer, enumeration, pointer, reference, data_member, function_member, const, same_but_const, is_void}
-use Rattle.cf_core.specs.Core.{Change, arithmetic, moved, no_temporary, local_temporary}
+use Rattle.cf_core.specs.Types.{Name, SourceType, void, integer, enumeration, pointer, reference, data_member, function_member, const, same_but_const, is_void}
+use Rattle.cf_core.specs.Core.{Change, arithmetic, moved, Static, no_temporary, local_temporary, static_temporary}
 use Rattle.cf_core.specs.Places.{is_scalar}
 use Rattle.cf_core.specs.Typing.{Scope, Typing, no_typing, allowed, is_function, is_integral, same_type, of_start, of_value, of_name, is_integer, integral_type, scalar_type, compares_with_null, is_condition, is_expression, is_zero, pointed, points_to_object, is_right_operand, pointers_alike, may_be_equal, pointer_operated, changes, either, or_else, to_pointer, converts}
 use Rattle.cf_core.specs.Typing as typing
-use Rattle.cf_core.specs.Typed.{indexed_type, stored, changed_in_place, binds}
+use Rattle.cf_core.specs.Typed.{indexed_type, stored, changed_in_place, holds_for, binds}
 use Rattle.cf_sequence.proofs.Calling.{never}
 
 pub data Serves (x : Typing) : Type 0 where
@@ -258,3 +258,9 @@ bound-parts scope j u x (reference t) fit =
     ((both (same_but_const u t) (same_type (slice_get scope.locals j) u) parts.0).1, parts.1)
 bound-parts scope j u x (const t) fit = bound-parts scope j u x t fit
 bound-parts scope j u x t fit = never fit
+
+-- what a static reference binds that is no place: a value starts its temporary
+pub static-starts : (scope : Scope) (name : Name) (x : Typing) (t : SourceType) → binds scope (static_temporary name) x t ≡ true → (u : SourceType) × (x.start u ≡ true)
+static-starts scope name x (reference t) fit = (t, (both (holds_for scope (find (λ (s : Static). bytes_eq s.name name) scope.statics) t) (x.start t) fit).1)
+static-starts scope name x (const t) fit = static-starts scope name x t fit
+static-starts scope name x t fit = never fit

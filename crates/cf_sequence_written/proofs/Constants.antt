@@ -1,18 +1,20 @@
 -- What the test finds constant is constant: a value, or what sets an object of a type.
-use Rattle.std.proofs.Common.{◌≡◌, Bool, true, false, ◌&&◌, ◌||◌, List, [], ◌∷◌, map, refl, ap, sym, subst, ◌∙◌}
+use Rattle.std.proofs.Common.{◌≡◌, Bool, true, false, not, ◌&&◌, ◌||◌, List, [], ◌∷◌, map, refl, ap, sym, subst, ◌∙◌}
 use Rattle.std.specs.Prelude.{Option, Some, None}
 use Rattle.cf_classes.specs.declared.class.MemberRef.{MemberRef}
 use Rattle.cf_core.specs.declared.node.Core.{Core as Node, roll-Core, ind-Core}
 use Rattle.cf_core.specs.declared.node.Core.TheOpen.{Core-F}
 use Rattle.cf_core.specs.declared.node.Core.TheFolds.{fold-roll-Core, map-Core}
 use Rattle.cf_core.specs.declared.node.PartStart.{PartStart, fold-PartStart}
+use Rattle.cf_core.specs.declared.node.Holder.TheVariants as holder
+use Rattle.cf_core.specs.Places.{is_reference}
 use Rattle.cf_core.specs.Types.{Name, SourceType, plain, element}
 use Rattle.cf_core.specs.Core.{Core, Cores}
 use Rattle.cf_core.specs.FromTypes.{Tables}
 use Rattle.cf_core.specs.View.{Started, core_step, started_step, core_of, listed}
-use Rattle.cf_sequence.specs.Built.{is_row, is_filling, is_constant_value, is_constant_initial, is_constant_list, are_constant_elements, is_constant_element}
+use Rattle.cf_sequence.specs.Built.{is_row, is_filling, is_constant_value, is_constant_initial, is_constant_list, are_constant_elements, is_constant_element, is_bound, is_constant_set}
 use Rattle.cf_sequence_built.specs.Unbuilt as unbuilt
-use Rattle.cf_sequence_built.specs.Unbuilt.{Constant, constant_step, constant_part, constant, set_by_list, sets, each_sets}
+use Rattle.cf_sequence_built.specs.Unbuilt.{Constant, constant_step, constant_part, constant, set_by_list, sets, each_sets, sets_object}
 use Rattle.cf_sequence_written.proofs.Tested.{row-is}
 
 two-same : (a b c d : Bool) → a ≡ c → b ≡ d → a && b ≡ c && d
@@ -35,10 +37,15 @@ pub record Told (x : Constant) (c : Core) : Type 0 where
   pub value : x.value ≡ is_constant_value c
   pub filling : x.is_filling ≡ is_filling c
   pub list : Lists x.list c
+  pub bound : x.is_bound ≡ is_bound c
 
-pub sets-is : (x : Constant) (c : Core) → Told x c → (t : SourceType) → sets t x ≡ is_constant_element t c
+sets-is : (x : Constant) (c : Core) → Told x c → (t : SourceType) → sets t x ≡ is_constant_element t c
 sets-is x c told t =
     list-by x.list c told.list t (x.is_filling || x.value) (ap (λ b. b || x.value) told.filling ∙ ap (λ b. is_filling c || b) told.value)
+
+pub sets-object : (x : Constant) (c : Core) → Told x c → (t : SourceType) → sets_object t x ≡ is_constant_set t c
+sets-object x c told t =
+    ap (λ b. b || (not (is_reference t) && sets t x)) told.bound ∙ ap (λ b. is_bound c || (not (is_reference t) && b)) (sets-is x c told t)
 
 module _ (tables : Tables) (signature : MemberRef → Name) where
   abbrev of_node : Node → Core
@@ -94,24 +101,28 @@ module _ (tables : Tables) (signature : MemberRef → Name) where
       (two-same (each_sets u (constants_of es)) (constant rest.0).is_filling (are_constant_elements u (cores_of es)) (is_filling (of_node rest.0)) (each-is es u) rest.1.filling)
 
   layer : (y : Core-F Child PartChild) → IsLayer (shape y)
-  layer (Core-F.Address at e) = record { value = e.1.value; filling = refl; list = λ t. refl }
-  layer (Core-F.Dereference at e) = record { value = e.1.value; filling = refl; list = λ t. refl }
-  layer (Core-F.Decay at e) = record { value = e.1.value; filling = refl; list = λ t. refl }
-  layer (Core-F.Index at a b) = record { value = two a b; filling = refl; list = λ t. refl }
-  layer (Core-F.Convert at t e) = record { value = e.1.value; filling = refl; list = λ t. refl }
-  layer (Core-F.Operate at op k a b) = record { value = two a b; filling = refl; list = λ t. refl }
-  layer (Core-F.Unary at op k e) = record { value = e.1.value; filling = refl; list = λ t. refl }
-  layer (Core-F.Not at e) = record { value = e.1.value; filling = refl; list = λ t. refl }
-  layer (Core-F.And at a b) = record { value = two a b; filling = refl; list = λ t. refl }
-  layer (Core-F.Or at a b) = record { value = two a b; filling = refl; list = λ t. refl }
-  layer (Core-F.PointerOperate at op a b) = record { value = two a b; filling = refl; list = λ t. refl }
+  layer (Core-F.Address at e) = record { value = e.1.value; filling = refl; list = λ t. refl; bound = refl }
+  layer (Core-F.Dereference at e) = record { value = e.1.value; filling = refl; list = λ t. refl; bound = refl }
+  layer (Core-F.Decay at e) = record { value = e.1.value; filling = refl; list = λ t. refl; bound = refl }
+  layer (Core-F.Index at a b) = record { value = two a b; filling = refl; list = λ t. refl; bound = refl }
+  layer (Core-F.Convert at t e) = record { value = e.1.value; filling = refl; list = λ t. refl; bound = refl }
+  layer (Core-F.Operate at op k a b) = record { value = two a b; filling = refl; list = λ t. refl; bound = refl }
+  layer (Core-F.Unary at op k e) = record { value = e.1.value; filling = refl; list = λ t. refl; bound = refl }
+  layer (Core-F.Not at e) = record { value = e.1.value; filling = refl; list = λ t. refl; bound = refl }
+  layer (Core-F.And at a b) = record { value = two a b; filling = refl; list = λ t. refl; bound = refl }
+  layer (Core-F.Or at a b) = record { value = two a b; filling = refl; list = λ t. refl; bound = refl }
+  layer (Core-F.PointerOperate at op a b) = record { value = two a b; filling = refl; list = λ t. refl; bound = refl }
   layer (Core-F.Conditional at c a b) = record {
     value = two-same (constant c.0).value ((constant a.0).value && (constant b.0).value) (is_constant_value (of_node c.0)) (is_constant_value (of_node a.0) && is_constant_value (of_node b.0)) c.1.value (two a b);
     filling = refl;
     list = λ t. refl;
+    bound = refl;
   }
-  layer (Core-F.List at es rest) = record { value = refl; filling = refl; list = (list-is es rest, refl) }
-  layer y = record { value = refl; filling = refl; list = λ t. refl }
+  layer (Core-F.Bind at holder.NoTemporary e) = record { value = refl; filling = refl; list = λ t. refl; bound = e.1.value }
+  layer (Core-F.Bind at (holder.LocalTemporary i t) e) = record { value = refl; filling = refl; list = λ t. refl; bound = refl }
+  layer (Core-F.Bind at (holder.StaticTemporary name) e) = record { value = refl; filling = refl; list = λ t. refl; bound = e.1.value }
+  layer (Core-F.List at es rest) = record { value = refl; filling = refl; list = (list-is es rest, refl); bound = refl }
+  layer y = record { value = refl; filling = refl; list = λ t. refl; bound = refl }
 
   rolled : (x : Core-F Node PartStart) → IsLayer x → IsTold (roll-Core x)
   rolled x p =

@@ -29,7 +29,7 @@ use Rattle.cf_sequence_expr.specs.Finds.{skipped, listed}
 use Rattle.cf_sequence_expr.specs.Writes.{flag, put, set, act, used, emptied, branched, within, passed}
 use Rattle.cf_sequence_expr.specs.Parameters.{parameters_at, counted}
 use Rattle.cf_sequence_expr.specs.Pieces as pieces
-use Rattle.cf_sequence_expr.specs.Pieces.{Piece, left, two, truth, all_values, updated, stepped, stepped_behind, argument, arguments, called, callee, pointed, held, temporary, find_all, find_temporary}
+use Rattle.cf_sequence_expr.specs.Pieces.{Piece, left, two, truth, all_values, updated, stepped, stepped_behind, argument, arguments, called, callee, pointed, held, static_held, temporary, find_all, find_temporary}
 
 pub and-true : (a b : Bool) → a ≡ true → b ≡ true → a && b ≡ true
 and-true a b p q = ap (λ c. c && b) p ∙ q
@@ -189,6 +189,13 @@ module _ (tables : Tables) where
     keeps = Keeps.keeps
         (keeps-then (keeps-then (keeps-then (keeps-set (suc n) (action.Declare i t) there) (keeps-set n (action.Local i) refl)) (one.value x (suc (suc n))))
         (keeps-act (action.First (suc n) (suc (suc n))) refl));
+  }
+
+  -- a static reference's
+  pub keeps-static_held : {p : Piece} (name : List ℕ) (x : Full) (n : ℕ) → KnownPiece p → Keeps (static_held name p x n)
+  unfolding static_held
+  keeps-static_held {p} name x n one = record {
+    keeps = Keeps.keeps (keeps-then (keeps-then (one.value x (suc n)) (keeps-set n (action.FinishStatic name) refl)) (keeps-act (action.First n (suc n)) refl));
   }
 
   -- that of a full expression

@@ -20,7 +20,7 @@ use Rattle.cf_sequence_expr.specs.Writes.{set}
 use Rattle.cf_sequence_expr.specs.Parameters.{parameters_at}
 use Rattle.cf_sequence_expr.specs.Pieces as pieces
 use Rattle.cf_sequence_expr.specs.Pieces.{Piece, piece, part_piece, piece_step}
-use Rattle.cf_sequence_written.proofs.Known.{KnownPiece, KnownAll, Keeps, Typed, typed-none, typed-then, typed-skipped, typed-temporary, keeps-temporary, keeps-none, keeps-then, keeps-set, keeps-act, keeps-used, keeps-within, keeps-two, keeps-truth, keeps-updated, keeps-stepped, keeps-stepped_behind, keeps-called, keeps-pointed, keeps-held, known-none, known-more, own-known, parameters-known, and-true}
+use Rattle.cf_sequence_written.proofs.Known.{KnownPiece, KnownAll, Keeps, Typed, typed-none, typed-then, typed-skipped, typed-temporary, keeps-temporary, keeps-none, keeps-then, keeps-set, keeps-act, keeps-used, keeps-within, keeps-two, keeps-truth, keeps-updated, keeps-stepped, keeps-stepped_behind, keeps-called, keeps-pointed, keeps-held, keeps-static_held, known-none, known-more, own-known, parameters-known, and-true}
 
 module _ (tables : Tables) (names : (i : ℕ) (v : Ty) → slice_get tables.types.types i ≡ Some v → Names tables.types.funs i (length tables.types.funs) v) where
   abbrev part_known : PartStart → Bool
@@ -154,7 +154,7 @@ module _ (tables : Tables) (names : (i : ℕ) (v : Ty) → slice_get tables.type
       let parts = both (has_type tables t) (known_of e) ok in
       let good = e.1 parts.1 in
       record { value = λ x n. keeps-held tables i t x n parts.0 good; locals = good.locals; finds = λ b. good.finds b }
-  layer (Core-F.Bind at (holder.StaticTemporary name) e) ok = let good = e.1 ok in record { value = λ x n. good.value x n; locals = good.locals; finds = λ b. good.finds b }
+  layer (Core-F.Bind at (holder.StaticTemporary name) e) ok = let good = e.1 ok in record { value = λ x n. keeps-static_held tables name x n good; locals = good.locals; finds = λ b. good.finds b }
   layer (Core-F.Read at e) ok = single e (λ n. action.Read n) (λ n. refl) ok
   layer (Core-F.Address at e) ok = let good = e.1 ok in record { value = λ x n. keeps-then tables (good.value x n) (keeps-used tables n); locals = good.locals; finds = λ b. good.finds b }
   layer (Core-F.Dereference at e) ok = single e (λ n. action.Dereference n) (λ n. refl) ok

@@ -178,7 +178,7 @@ module _ (tables : Tables) where
   keeps-started (fills a) p t n there known q = record { keeps = Keeps.keeps (keeps-act tables (a n) (known n)) }
   keeps-started (lists f) p t n there known q = record { keeps = Keeps.keeps (known t n (behind_flags (suc n) p) there) }
   keeps-started gives p t n there known q = record {
-    keeps = Keeps.keeps (keeps-then tables (keeps-around (suc n) p q (keeps-none tables)) (keeps-act tables (action.First n (behind_flags (suc n) p)) refl));
+    keeps = Keeps.keeps (keeps-around (suc n) p q (keeps-act tables (action.First n (behind_flags (suc n) p)) refl));
   }
 
   known-held_too : (o : Option Open) (b : Body) → KnownHeld tables o → KnownBody b → KnownBody (held_too o b)

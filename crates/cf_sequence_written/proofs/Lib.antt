@@ -7,6 +7,7 @@ pub mod Values
 pub mod Made
 pub mod Calls
 pub mod Evaluated
+pub mod Bound
 pub mod Held
 pub mod Fulls
 pub mod Opens

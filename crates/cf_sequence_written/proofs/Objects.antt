@@ -29,7 +29,7 @@ use Rattle.cf_sequence.specs.Made.{width}
 use Rattle.cf_sequence.specs.Statements.{type_of_static, initialised}
 use Rattle.cf_sequence.specs.Statements as definition
 use Rattle.cf_sequence.specs.Sequenced.{sequenced_start, sequenced_static}
-use Rattle.cf_sequence.proofs.Constants.{set_as, start-is, constant-object, constant-start, something-constant, constant-element}
+use Rattle.cf_sequence.proofs.Constants.{set_as, start-is, constant-object, constant-start, something-constant, by-set, constant-element}
 use Rattle.cf_sequence.proofs.JoinedObjects.{is_among, type-behind}
 use Rattle.cf_sequence.proofs.OwnNames.{is_own}
 use Rattle.cf_sequence.proofs.StaticObjects.{type_found}
@@ -38,16 +38,17 @@ use Rattle.cf_sequence_expr.specs.declared.writing.Writing.{Writing}
 use Rattle.cf_sequence_expr.specs.Writes.{set, act}
 use Rattle.cf_sequence_expr.specs.Parameters.{parameters_at}
 use Rattle.cf_sequence_expr.specs.Pieces.{Piece, piece}
-use Rattle.cf_sequence_stmt.specs.Bodies.{Initial, does_nothing, fills, lists, gives, is_blank, started, placed}
-use Rattle.cf_sequence_stmt.specs.Steps.{step}
+use Rattle.cf_sequence_stmt.specs.Bodies.{Initial, does_nothing, fills, lists, gives, is_blank, started, reached, placed}
+use Rattle.cf_sequence_stmt.specs.Steps.{step, binds}
 use Rattle.cf_sequence_stmt.proofs.Pieces.{same_piece}
 use Rattle.cf_sequence_fn.specs.Functions.{blank_writing, written_object}
 use Rattle.cf_sequence_written.proofs.Adding.{Adds, adding}
+use Rattle.cf_sequence_written.proofs.Bound.{binds-is}
 use Rattle.cf_sequence_written.proofs.Followed.{followed-end}
-use Rattle.cf_sequence_written.proofs.Puts.{Puts, still-set, still-act, still-then, still-puts, puts-still}
+use Rattle.cf_sequence_written.proofs.Puts.{Puts, Still, still-set, still-act, still-then, still-puts, puts-still}
 use Rattle.cf_sequence_written.proofs.Parameters.{RowOf}
 use Rattle.cf_sequence_written.proofs.Wholes.{Initiates, as-found, puts-started}
-use Rattle.cf_sequence_written.proofs.Stated.{Stated, written-statement, initiates}
+use Rattle.cf_sequence_written.proofs.Stated.{Stated, written-statement, initiates, initiates-bound}
 use Rattle.cf_sequence_written.proofs.Known.{KnownPiece, Keeps, keeps-then, keeps-set, keeps-act, and-true}
 use Rattle.cf_sequence_written.proofs.KnownPieces.{known-piece}
 use Rattle.cf_sequence_written.proofs.KnownSteps.{KnownInitial, keeps-started}
@@ -125,32 +126,40 @@ module _ (tables : Tables) (params : (t : ℕ) → map (type_of tables) (paramet
   object : is_nothing X.start ≡ false → Initiates tables signature initial p x.ty X.start
   object e =
       let t : SourceType = type_of_static statics x.name in
-      initiates tables signature params rows x.start written x.ty
-      (subst (λ t. is_element t X.start ≡ true) typed (constant-element t X.start (something-constant t X.start (constant-start statics X built) e)))
+      by-set t X.start (something-constant t X.start (constant-start statics X built) e) (λ bound. initiates-bound tables signature params rows x.start written x.ty bound)
+      (λ other constant.
+      initiates tables signature params rows x.start written x.ty (subst (λ t. is_element t X.start ≡ true) typed (constant-element t X.start constant)))
 
   blank-is : is_blank initial ≡ is_nothing X.start
   blank-is = as-found tables signature initial X.start (Stated.initial written)
 
+  still-reached : (b : Bool) → Still tables signature (reached x.name x.ty b) (definition.reached b T x.name)
+  unfolding reached
+  still-reached true = still-set tables signature 0 (action.Reach x.name)
+  still-reached false = still-then tables signature (still-act tables signature (action.Reach x.name)) (still-set tables signature 0 (action.Static x.name x.ty))
+
   -- what is written where there is an initialiser
+  abbrev put_there : Writing → Writing
+  put_there w = act (action.FinishStatic x.name) (started initial p x.ty 0 (reached x.name x.ty (binds x.start) w))
+
   puts-placed : is_nothing X.start ≡ false
-      → Puts tables signature (λ w. act (action.FinishStatic x.name) (started initial p x.ty 0 (set 0 (action.Static x.name x.ty) (act (action.Reach x.name) w))))
-      (λ k rest. more (acts (plain.reach x.name)) (more (sets 0 (plain.static_object x.name T)) (definition.started classes T X.start 0 k (more (acts (plain.finish_static x.name)) rest)))) (width X.start)
+      → Puts tables signature put_there
+      (λ k rest. definition.reached (binds x.start) T x.name (definition.started classes T X.start 0 k (more (acts (plain.finish_static x.name)) rest))) (width X.start)
   puts-placed e =
-      still-puts tables signature (still-then tables signature (still-act tables signature (action.Reach x.name)) (still-set tables signature 0 (action.Static x.name x.ty)))
+      still-puts tables signature (still-reached (binds x.start))
       (puts-still tables signature (puts-started tables signature classes x.ty 0 initial (object e)) (still-act tables signature (action.FinishStatic x.name)))
 
-  abbrev put_there : Writing
-  put_there = act (action.FinishStatic x.name) (started initial p x.ty 0 (set 0 (action.Static x.name x.ty) (act (action.Reach x.name) (blank_writing alloc))))
-
   start-as : (b : Bool) → is_nothing X.start ≡ b
-      → plains_of tables signature (Writing.code (if b then blank_writing alloc else put_there)) ≡ (if b then nothing else initialised classes T x.name X.start 0 nothing)
+      → plains_of tables signature (Writing.code (if b then blank_writing alloc else put_there (blank_writing alloc))) ≡ (if b then nothing else initialised classes T x.name X.start 0 nothing)
   start-as true e = refl
-  start-as false e = sym (followed-end tables signature (Writing.code put_there)) ∙ Puts.code (puts-placed e) (blank_writing alloc) nothing
+  start-as false e =
+      sym (followed-end tables signature (Writing.code (put_there (blank_writing alloc)))) ∙ Puts.code (puts-placed e) (blank_writing alloc) nothing
+      ∙ ap (λ b. definition.reached b T x.name (definition.started classes T X.start 0 0 (more (acts (plain.finish_static x.name)) nothing))) (binds-is tables signature x.start)
 
-  start-written : plains_of tables signature (Writing.code (placed x.name x.ty initial p (blank_writing alloc))) ≡ sequenced_start classes statics X
+  start-written : plains_of tables signature (Writing.code (placed x.name x.ty (binds x.start) initial p (blank_writing alloc))) ≡ sequenced_start classes statics X
   unfolding placed
   start-written =
-      ap (λ b. plains_of tables signature (Writing.code (if b then blank_writing alloc else put_there))) blank-is
+      ap (λ b. plains_of tables signature (Writing.code (if b then blank_writing alloc else put_there (blank_writing alloc)))) blank-is
       ∙ start-as (is_nothing X.start) refl
       ∙ ap (set_as classes X) (sym typed)
       ∙ sym (start-is classes statics X (constant-object statics X built))
@@ -196,19 +205,23 @@ module _ (tables : Tables) (params : (t : ℕ) → map (type_of tables) (paramet
 -- ---- numbers of types
 
 module _ (tables : Tables) (names : (i : ℕ) (v : Ty) → slice_get tables.types.types i ≡ Some v → Names tables.types.funs i (length tables.types.funs) v) (alloc : Global) where
-  keeps-set-there : (name : List ℕ) (t : ℕ) (initial : Initial) (p : Piece) → has_type tables t ≡ true → KnownInitial tables initial → KnownPiece tables p
-      → Keeps tables (λ w. act (action.FinishStatic name) (started initial p t 0 (set 0 (action.Static name t) (act (action.Reach name) w))))
-  keeps-set-there name t initial p there known q =
-      keeps-then tables
-      (keeps-then tables (keeps-then tables (keeps-act tables (action.Reach name) refl) (keeps-set tables 0 (action.Static name t) there)) (keeps-started tables initial p t 0 there known q))
-      (keeps-act tables (action.FinishStatic name) refl)
+  keeps-reached : (name : List ℕ) (t : ℕ) (b : Bool) → has_type tables t ≡ true → Keeps tables (reached name t b)
+  unfolding reached
+  keeps-reached name t true there = keeps-set tables 0 (action.Reach name) refl
+  keeps-reached name t false there = keeps-then tables (keeps-act tables (action.Reach name) refl) (keeps-set tables 0 (action.Static name t) there)
 
-  keeps-placed : (name : List ℕ) (t : ℕ) (initial : Initial) (p : Piece) → has_type tables t ≡ true → KnownInitial tables initial → KnownPiece tables p → Keeps tables (placed name t initial p)
+  keeps-set-there : (name : List ℕ) (t : ℕ) (b : Bool) (initial : Initial) (p : Piece) → has_type tables t ≡ true → KnownInitial tables initial → KnownPiece tables p
+      → Keeps tables (λ w. act (action.FinishStatic name) (started initial p t 0 (reached name t b w)))
+  keeps-set-there name t b initial p there known q =
+      keeps-then tables (keeps-then tables (keeps-reached name t b there) (keeps-started tables initial p t 0 there known q)) (keeps-act tables (action.FinishStatic name) refl)
+
+  keeps-placed : (name : List ℕ) (t : ℕ) (b : Bool) (initial : Initial) (p : Piece) → has_type tables t ≡ true → KnownInitial tables initial → KnownPiece tables p
+      → Keeps tables (placed name t b initial p)
   unfolding placed
-  keeps-placed name t does_nothing p there known q = record { keeps = λ w ok. ok }
-  keeps-placed name t (fills a) p there known q = keeps-set-there name t (fills a) p there known q
-  keeps-placed name t (lists f) p there known q = keeps-set-there name t (lists f) p there known q
-  keeps-placed name t gives p there known q = keeps-set-there name t gives p there known q
+  keeps-placed name t b does_nothing p there known q = record { keeps = λ w ok. ok }
+  keeps-placed name t b (fills a) p there known q = keeps-set-there name t b (fills a) p there known q
+  keeps-placed name t b (lists f) p there known q = keeps-set-there name t b (lists f) p there known q
+  keeps-placed name t b gives p there known q = keeps-set-there name t b gives p there known q
 
   object-known : (x : CoreStatic) → numbers.static_known tables x ≡ true → plain_numbers.static_known tables (written_object tables.types alloc x) ≡ true
   unfolding written_object
@@ -218,7 +231,7 @@ module _ (tables : Tables) (names : (i : ℕ) (v : Ty) → slice_get tables.type
       let s = step tables.types x.start in
       and-true (has_type tables x.ty && list_all (has_type tables) ((piece tables.types x.start).locals [])) _
       (and-true (has_type tables x.ty) _ parts.0 (KnownPiece.locals known [] refl))
-      (Keeps.keeps (keeps-placed x.name x.ty s.initial s.piece parts.0 (initial-known tables names x.start parts.1) (subst (KnownPiece tables) (sym (same_piece tables.types x.start)) known)) (blank_writing alloc) refl)
+      (Keeps.keeps (keeps-placed x.name x.ty (binds x.start) s.initial s.piece parts.0 (initial-known tables names x.start parts.1) (subst (KnownPiece tables) (sym (same_piece tables.types x.start)) known)) (blank_writing alloc) refl)
 
   pub objects-known : (xs : List CoreStatic) → list_all (numbers.static_known tables) xs ≡ true → list_all (plain_numbers.static_known tables) (map (written_object tables.types alloc) xs) ≡ true
   objects-known [] ok = refl

@@ -15,7 +15,7 @@ use Rattle.cf_core.specs.FromTypes.{Tables, type_of}
 use Rattle.cf_core.specs.View.{Started, core_step, started_step, core_of, listed}
 use Rattle.cf_plain.specs.declared.statement.Plain.TheVariants as code
 use Rattle.cf_plain.specs.Plain as plain
-use Rattle.cf_sequence.specs.Built.{is_value, is_start, is_filling, is_row, is_list, is_element, is_held, is_statement, is_statement_or, are_cases}
+use Rattle.cf_sequence.specs.Built.{is_value, is_start, is_filling, is_row, is_list, is_element, is_held, is_bound, is_statement, is_statement_or, are_cases}
 use Rattle.cf_sequence.specs.Made.{width}
 use Rattle.cf_sequence.specs.Expressions.{builds}
 use Rattle.cf_sequence.proofs.Calling.{never}
@@ -34,6 +34,7 @@ use Rattle.cf_sequence_written.proofs.Wholes.{Whole, gives-builds, Begins, Initi
 use Rattle.cf_sequence_written.proofs.Parameters.{RowOf}
 use Rattle.cf_sequence_written.proofs.Lists.{PutsElements, elements-none, elements-more, lists-are}
 use Rattle.cf_sequence_written.proofs.Statements.{Acts, ActsAll, stated-statement, stated-all, acts-none, acts-more, acts-absent, acts-given, goes-block, goes-choice, goes-leave, goes-continue, goes-give, goes-given_back}
+use Rattle.cf_sequence_written.proofs.Bound.{written-bound}
 use Rattle.cf_sequence_written.proofs.Held.{held-is, written-held}
 use Rattle.cf_sequence_written.proofs.Passed.{passed-nodes}
 use Rattle.cf_sequence_written.proofs.Loops.{Part, no_part, one_part, goes-loop, goes-switch}
@@ -47,6 +48,10 @@ only-middle false false c p q ok = sym q ∙ ok
 held-builds : (i : ℕ) (e : Core) → is_held i e ≡ true → builds e ≡ false
 held-builds i (core.bind (local_temporary j t) e) ok = refl
 held-builds i e ok = never ok
+
+bound-builds : (e : Core) → is_bound e ≡ true → builds e ≡ false
+bound-builds (core.bind h e) ok = refl
+bound-builds e ok = never ok
 
 module _ (tables : Tables) (signature : MemberRef → Name) (params : (t : ℕ) → map (type_of tables) (parameters_at tables.types t) ≡ parameters (type_of tables t))
     (rows : (t : ℕ) → is_row (type_of tables t) ≡ true → RowOf tables t) where
@@ -127,6 +132,19 @@ module _ (tables : Tables) (signature : MemberRef → Name) (params : (t : ℕ) 
   initiates-local n w i t ok =
       or-else (is_element (type_of tables t) (of_node n)) (is_held i (of_node n)) ok (λ element. initiates n w t element)
       (λ held. record { begins = w.initial; whole = λ other unlisted. held_of n i held; count = counts n })
+
+  -- that of a static reference
+  pub initiates-bound : (n : Node) → IsWritten n → (t : ℕ) → is_bound (of_node n) ≡ true → Initiates tables signature (step tables.types n).initial (step tables.types n).piece t (of_node n)
+  initiates-bound n w t ok = record {
+    begins = w.initial;
+    whole = λ other unlisted. record {
+      writes = λ classes.
+          subst (λ p. Writes tables signature classes p (of_node n)) (sym (same_piece tables.types n)) (written-bound tables signature classes params n ok);
+      count = counts n;
+      put = λ there. bound-builds (of_node n) ok;
+    };
+    count = counts n;
+  }
 
   operand : (e : Child) → is_start (of e) ≡ true → Whole tables signature (step_of e).piece (of e)
   operand e ok = operand_of e.0 ok

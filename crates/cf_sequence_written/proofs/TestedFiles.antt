@@ -13,7 +13,6 @@ use Rattle.cf_core.specs.declared.unit.Role.TheVariants as role
 use Rattle.cf_core.specs.Types.{Name, SourceType, void, gives, parameters, is_class}
 use Rattle.cf_core.specs.Core.{Function, Static}
 use Rattle.cf_core.specs.Joined.{is_nothing}
-use Rattle.cf_core.specs.Places.{is_reference}
 use Rattle.cf_core.specs.NodePlace.{place}
 use Rattle.cf_core.specs.FromTypes.{Tables, type_of, taking}
 use Rattle.cf_core.specs.FromClasses.{signature_of, classes_in}
@@ -22,9 +21,9 @@ use Rattle.cf_sequence.specs.Built.{is_statement, is_chain, is_plain_role, is_no
 use Rattle.cf_sequence.specs.Statements.{type_of_static}
 use Rattle.cf_sequence.proofs.StaticObjects.{type_found}
 use Rattle.cf_sequence_built.specs.Unbuilt as unbuilt
-use Rattle.cf_sequence_built.specs.Unbuilt.{Test, test, is_plain, takes_nothing, is_usual, in_function, in_functions, constant, sets, type_named, is_usual_object, in_static, in_statics, in_file, in_body}
+use Rattle.cf_sequence_built.specs.Unbuilt.{Test, test, is_plain, takes_nothing, is_usual, in_function, in_functions, constant, sets_object, type_named, is_usual_object, in_static, in_statics, in_file, in_body}
 use Rattle.cf_sequence_written.proofs.Parameters.{parameters-taking, result-taking}
-use Rattle.cf_sequence_written.proofs.Constants.{sets-is, told}
+use Rattle.cf_sequence_written.proofs.Constants.{sets-object, told}
 use Rattle.cf_sequence_written.proofs.Lasts.{last-is}
 use Rattle.cf_sequence_written.proofs.Tested.{clear, and-is, where-true, Tests, tested}
 
@@ -51,10 +50,9 @@ parts-are true true false s = refl
 parts-are true true true s = refl
 
 -- those of a static object
-object-parts : (c r s l : Bool) → c && (r && (s && l)) ≡ (c && (r && s)) && l
-object-parts false r s l = refl
-object-parts true false s l = refl
-object-parts true true s l = refl
+object-parts : (c s l : Bool) → c && (s && l) ≡ (c && s) && l
+object-parts false s l = refl
+object-parts true s l = refl
 
 where-false : (at : ℕ) (b : Bool) → clear (if b then None else Some at) ≡ b
 where-false at true = refl
@@ -128,11 +126,11 @@ module _ (tables : Tables) where
       let known : Test = test tables x.start in
       let T : SourceType = type_of_static (statics_of all) x.name in
       where-false (place x.start) (is_usual_object tables all x)
-      ∙ ap (λ t. x.is_constant && (not (is_reference t) && ((known.is_blank || sets t (constant x.start)) && not (unbuilt.has_mark x.name)))) (named-is all x.name)
-      ∙ ap (λ m. x.is_constant && (not (is_reference T) && ((known.is_blank || sets T (constant x.start)) && not m))) (mark-is x.name)
-      ∙ object-parts x.is_constant (not (is_reference T)) (known.is_blank || sets T (constant x.start)) (not (has_mark x.name))
-      ∙ ap (λ b. (x.is_constant && (not (is_reference T) && (b || sets T (constant x.start)))) && not (has_mark x.name)) (Tests.blank (tested tables (signature_of tables) x.start))
-      ∙ ap (λ b. (x.is_constant && (not (is_reference T) && (is_nothing X.start || b))) && not (has_mark x.name)) (sets-is (constant x.start) X.start (told tables (signature_of tables) x.start) T)
+      ∙ ap (λ t. x.is_constant && ((known.is_blank || sets_object t (constant x.start)) && not (unbuilt.has_mark x.name))) (named-is all x.name)
+      ∙ ap (λ m. x.is_constant && ((known.is_blank || sets_object T (constant x.start)) && not m)) (mark-is x.name)
+      ∙ object-parts x.is_constant (known.is_blank || sets_object T (constant x.start)) (not (has_mark x.name))
+      ∙ ap (λ b. (x.is_constant && (b || sets_object T (constant x.start))) && not (has_mark x.name)) (Tests.blank (tested tables (signature_of tables) x.start))
+      ∙ ap (λ b. (x.is_constant && (is_nothing X.start || b)) && not (has_mark x.name)) (sets-object (constant x.start) X.start (told tables (signature_of tables) x.start) T)
 
   statics-are : (all xs : List CoreStatic) → clear (in_statics tables all xs) ≡ list_all (is_own (statics_of all)) (statics_of xs)
   statics-are all [] = refl

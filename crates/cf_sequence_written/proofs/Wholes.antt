@@ -22,7 +22,7 @@ use Rattle.cf_sequence.proofs.Filling.{fill, filling-adds, started-is}
 use Rattle.cf_sequence.proofs.Calling.{never}
 use Rattle.cf_sequence.proofs.Fulls.{nothing-is}
 use Rattle.cf_sequence_expr.specs.declared.writing.Writing.{Writing}
-use Rattle.cf_sequence_expr.specs.Writes.{used, set}
+use Rattle.cf_sequence_expr.specs.Writes.{used, set, act}
 use Rattle.cf_sequence_expr.specs.Pieces.{Piece}
 use Rattle.cf_sequence_stmt.specs.declared.body.Body.{Body}
 use Rattle.cf_sequence_stmt.specs.declared.body.Open.{Open}
@@ -110,11 +110,13 @@ module _ (tables : Tables) (signature : MemberRef → Name) where
   unfolding started
   puts-value-there {p} {e} classes t n gives_value w =
       let T = type_of tables t in
-      let put : ℕ → ℕ → Bool → Plains → Plains = λ k r c rest.
-      whole e (suc n) k (λ x m rest. value classes x e (destination n T) m k rest) (λ m. if c then rest else more (acts (plain.first n r)) rest) in
+      let r = behind_flags (suc n) p in
+      let put : ℕ → Bool → Plains → Plains = λ k c rest.
+      whole e (suc n) k (λ x m rest. value classes x e (destination n T) m k (if c then rest else more (acts (plain.first n m)) rest)) (λ m. rest) in
       puts-as tables signature
-      (puts-still tables signature (puts-all tables signature classes (suc n) (destination n T) (w.writes classes) (behind w (suc n))) (still-act tables signature (action.First n (behind_flags (suc n) p))))
-      (λ k rest. ap (λ r. put k r false rest) (behind w (suc n)) ∙ ap (λ c. put k (suc n + width e) c rest) (sym gives_value)) refl
+      (puts-whole tables signature classes (suc n) (destination n T) (λ m rest. more (acts (plain.first n m)) rest) (w.writes classes)
+      (subst (λ m. Still tables signature (act (action.First n r)) (λ rest. more (acts (plain.first n m)) rest)) (behind w (suc n)) (still-act tables signature (action.First n r))) (behind w (suc n)))
+      (λ k rest. ap (λ c. put k c rest) (sym gives_value)) refl
 
   puts-nothing : (p : Piece) (e : Core) (classes : List Class) (t n : ℕ) → is_nothing e ≡ true
       → Puts tables signature (started does_nothing p t n) (λ k rest. definition.started classes (type_of tables t) e n k rest) (width e)

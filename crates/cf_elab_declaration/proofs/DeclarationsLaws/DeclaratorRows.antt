@@ -6,7 +6,8 @@ use Rattle.cf_unit.specs.declared.declaration.InitDeclarator.{InitDeclarator}
 use Rattle.cf_elab.specs.Answer.{Answer, Elab, Made, Refused, onward}
 use Rattle.cf_elab.specs.Built.{of_name}
 use Rattle.cf_elab.specs.Declaration as row
-use Rattle.cf_elab.specs.Declaration.{Initial, initial_of}
+use Rattle.cf_elab.specs.Complete.{types_within}
+use Rattle.cf_elab.specs.Declaration.{Initial, initial_of, declares}
 use Rattle.cf_elab.specs.Env.{Env, Name}
 use Rattle.cf_elab.specs.Expression.{declared}
 use Rattle.cf_elab.specs.Names.{is_file_scope}
@@ -21,6 +22,7 @@ use Rattle.cf_elab_env.specs.declared.stop.Stop.TheVariants as stop
 use Rattle.cf_elab_env.proofs.Growth.{type_grown, grown_laws}
 use Rattle.cf_elab_declaration.specs.Enums.ExprShut as expression
 use Rattle.cf_elab_declaration.specs.WrittenTrees.Given.{given}
+use Rattle.cf_elab_limits.specs.Shut as limits
 use Rattle.cf_elab_declaration.specs.Declarations.Shut as shut
 use Rattle.cf_elab_declaration.proofs.DeclarationsLaws.NamesBuilt.{name_plain, no_scopes}
 
@@ -77,5 +79,13 @@ module _ (g : Gathered) (d : InitDeclarator) (env : Env) where
       by (Some n) is =
           subst (λ a. Stops a s) (sym (named_is n (sym is) (name_plain d.declarator n built (sym is))))
           (stops_onward (expression.shape_of d.declarator env) (λ x env. named.named_declarator g d.at d.initialiser x n env) s h)
+
+-- and what it made is no larger than the limit
+pub limited_is : (g : Gathered) (d : InitDeclarator) (env : Env) (n : ℕ) → n ≡ length env.types.types
+    → shut.limited g d env ≡ onward (shut.declarator g d env) (λ xs e. onward (limits.types_within n e) (λ _ e. Made xs e))
+unfolding shut.limited shut.declarator limits.types_within
+limited_is g d env n is = ap (λ n. onward (row.declarator_row g (declares d) env) (λ xs e. onward (types_within n e) (λ _ e. Made xs e))) (sym is)
+
+pub ruleset limited_laws = (limited_is, grown_laws)
 
 pub ruleset declarator_laws = (unnamed_is, named_is, name_plain, type_grown_if, grown_laws)

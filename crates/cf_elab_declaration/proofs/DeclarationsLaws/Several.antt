@@ -58,14 +58,14 @@ module _ (start : Answer (List Reached)) (g : Gathered) (found : List Reached) (
   here : drop i ds ≡ d ∷ drop (i + 1) ds
   here = drop-cons ds i d within ∙ ap (λ x. x ∷ drop (suc i) ds) (sym there) ∙ ap (λ k. d ∷ drop k ds) (sym (add-one i))
 
-  at_one : start ≡ rest (shut.declarator g d env)
-  unfolding shut.declarators shut.declarator
+  at_one : start ≡ rest (shut.limited g d env)
+  unfolding shut.declarators shut.limited
   at_one = so_far ∙ ap (λ (l : List InitDeclarator). behind found (shut.declarators g l env)) here
 
-  pub declarators_stop : (stop : Stop) → Stops (shut.declarator g d env) stop → Stops start stop
+  pub declarators_stop : (stop : Stop) → Stops (shut.limited g d env) stop → Stops start stop
   declarators_stop (RuleBroken b) h = at_one ∙ ap rest h
   declarators_stop (LimitPassed l) h = at_one ∙ ap rest h
   declarators_stop Memory h = tt
 
-  pub declarators_go : (xs : List Reached) (next : Env) → shut.declarator g d env ≡ Made xs next → start ≡ behind (found ++ xs) (shut.declarators g (drop (i + 1) ds) next)
+  pub declarators_go : (xs : List Reached) (next : Env) → shut.limited g d env ≡ Made xs next → start ≡ behind (found ++ xs) (shut.declarators g (drop (i + 1) ds) next)
   declarators_go xs next h = at_one ∙ ap rest h ∙ joined found xs (shut.declarators g (drop (i + 1) ds) next)

@@ -61,6 +61,10 @@ alias ss ds = tree.alias_of (map specifier ss) (map declares ds)
 unfoldable pub declarator : Gathered → InitDeclarator → Elab (List Reached)
 declarator g d = row.declarator_row g (declares d)
 
+-- the same, where it makes no type that is larger than the limit on sizes
+unfoldable pub limited : Gathered → InitDeclarator → Elab (List Reached)
+limited g d = row.limited_declarator g (declares d)
+
 -- in order
 unfoldable pub declarators : Gathered → List InitDeclarator → Elab (List Reached)
 declarators g ds = row.declarators_row g (map declares ds)

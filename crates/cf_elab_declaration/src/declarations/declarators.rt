@@ -11,6 +11,7 @@ use crate::declarators::{check_conflict, named_declarator};
 use crate::enums::{declared_name, shape_of};
 use cf_base::{Broken, Items, Memory, Rule};
 use cf_elab_env::{Env, Stop};
+use cf_elab_limits::check_types;
 use cf_elab_made::Reached;
 use cf_elab_specifiers::Gathered;
 use cf_unit::InitDeclarator;
@@ -38,7 +39,7 @@ pub(crate) fn behind_specifiers(
     }
 }
 
-/// Declarators in order: the statements that they make.
+/// Declarators in order, each within the limit on sizes before the next: the statements that they make.
 fn each(
     declarators: &[InitDeclarator],
     gathered: &Gathered,
@@ -51,7 +52,7 @@ fn each(
 {
     let mut found = Items::new(env.alloc());
     for d in declarators {
-        let reached = declarator(d, gathered, env)?;
+        let reached = limited(d, gathered, env)?;
         add(&mut found, reached)?;
     }
     Ok(found)
@@ -65,6 +66,20 @@ fn add(found: &mut Items<Reached>, reached: Option<Reached>) -> Result<(), Memor
         None => Ok(()),
         Some(reached) => found.push(reached),
     }
+}
+
+/// A declarator with its initialiser, which makes no type that is larger than the limit on sizes.
+#[tactic(auto, using(crate::proofs::DeclarationsLaws::DeclaratorRows::limited_laws))]
+fn limited(d: &InitDeclarator, gathered: &Gathered, env: &mut Env) -> Result<Option<Reached>, Stop>
+    requires built { shut.DeclaratorIsBuilt d.now }
+    requires named { IfSome gathered.now.named (λ t. IsType env.old.types t) }
+    ensures made { AgreesAs maybe_reached (shut.limited gathered.now d.now env.old) result env.new }
+    ensures grows { OnOk result (Grows env.old.types env.new.types) }
+{
+    let count = env.types().count();
+    let reached = declarator(d, gathered, env)?;
+    check_types(env, count)?;
+    Ok(reached)
 }
 
 /// A declarator with its initialiser: the statement that it makes, if it makes one; K26 where it declares no name.

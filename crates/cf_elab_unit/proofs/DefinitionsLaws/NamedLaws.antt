@@ -7,6 +7,7 @@ use Rattle.cf_types.specs.Table.{Table}
 use Rattle.cf_unit.specs.declared.statement.Stmt.{Stmt}
 use Rattle.cf_elab.specs.Answer.{Elab, Made as Done, Refused, onward, none_at}
 use Rattle.cf_elab.specs.Built.{of_name}
+use Rattle.cf_elab.specs.Complete.{types_within}
 use Rattle.cf_elab.specs.Declaration as declaration
 use Rattle.cf_elab.specs.Definition as definition
 use Rattle.cf_elab.specs.Env.{Env}
@@ -23,6 +24,7 @@ use Rattle.cf_elab_env.specs.Holds.{IsFunctionSort}
 use Rattle.cf_elab_env.specs.Shut as making
 use Rattle.cf_elab_env.proofs.Growth.{grown_laws}
 use Rattle.cf_elab_functions.specs.Shut as declaring
+use Rattle.cf_elab_limits.specs.Shut as limits
 use Rattle.cf_elab_shape.specs.Shapes.Holds.{AreObjects, IsShape}
 use Rattle.cf_elab_shape.specs.Shapes.Seen.{type_of}
 use Rattle.cf_elab_shape.specs.Shapes.Shut as shaping
@@ -76,18 +78,18 @@ declare_is g s n t env = refl
 
 pub ruleset declare_laws = (declare_is, function_grown, types_grown, shape_grown, grown_laws)
 
-module _ (g : Gathered) (s : Shape) (n : WrittenName) (t at : ℕ) (body : List Stmt) (env : Env) where
+module _ (count : ℕ) (g : Gathered) (s : Shape) (n : WrittenName) (t at : ℕ) (body : List Stmt) (env : Env) where
   abbrev by_parameters : Option (List Parameter) → Elab (Unit {0})
   by_parameters o env =
-      onward (definition.parameters_or n.last_at o env) (λ ps e. onward (bounds_constant s e) (λ _ e. onward (shut.declare g s n t e) (λ k e. shut.define_at k ps at body e)))
+      onward (definition.parameters_or n.last_at o env) (λ ps e. onward (bounds_constant s e) (λ _ e. onward (shut.declare g s n t e) (λ k e. onward (types_within count e) (λ _ e. shut.define_at k ps at body e))))
 
   pub shape_is : (ps : List Parameter) → Some ps ≡ function_of s
-      → shut.define_shape g s n t at body env
-      ≡ onward (shaping.bounds_constant s env) (λ _ e. onward (shut.declare g s n t e) (λ k e. shut.define_at k ps at body e))
-  unfolding shut.define_shape shaping.bounds_constant
+      → shut.define_shape count g s n t at body env
+      ≡ onward (shaping.bounds_constant s env) (λ _ e. onward (shut.declare g s n t e) (λ k e. onward (limits.types_within count e) (λ _ e. shut.define_at k ps at body e)))
+  unfolding shut.define_shape shaping.bounds_constant limits.types_within
   shape_is ps is = ap (λ o. by_parameters o env) (sym is)
 
-  pub no_function : None ≡ function_of s → shut.define_shape g s n t at body env ≡ Refused 26 n.last_at
+  pub no_function : None ≡ function_of s → shut.define_shape count g s n t at body env ≡ Refused 26 n.last_at
   unfolding shut.define_shape
   no_function is = ap (λ o. by_parameters o env) (sym is)
 
@@ -102,7 +104,7 @@ pub ruleset shape_laws = (shape_is, no_function, objects_given, function_there, 
 
 -- ---- the whole
 
-module _ (g : Gathered) (at : ℕ) (s : Shape) (n : WrittenName) (b : ℕ) (body : List Stmt) (h : of_name n ≡ None) where
+module _ (count : ℕ) (g : Gathered) (at : ℕ) (s : Shape) (n : WrittenName) (b : ℕ) (body : List Stmt) (h : of_name n ≡ None) where
   plain : (e : Env) → declaration.need_plain_name n.last n.last_at e ≡ Done tt e
   plain e = by n.last refl
     where
@@ -117,7 +119,7 @@ module _ (g : Gathered) (at : ℕ) (s : Shape) (n : WrittenName) (b : ℕ) (body
     with_body ps e =
         onward (made.int e)
         (λ i e. onward (functions.declare_function i (declaration.function_says g n t s true false) e)
-        (λ k e. definition.define_function ps (definition.body_of b (map tree.statement body)) (slice_get e.entries k) e))
+        (λ k e. onward (types_within count e) (λ _ e. definition.define_function ps (definition.body_of b (map tree.statement body)) (slice_get e.entries k) e)))
 
     abbrev behind_parameters : (Elab (Unit {0}) → Elab (Unit {0})) → Option (List Parameter) → Elab (Unit {0})
     behind_parameters go o e = onward (definition.parameters_or n.last_at o e) (λ ps e. onward (bounds_constant s e) (λ _. go (with_body ps)))
@@ -134,12 +136,12 @@ module _ (g : Gathered) (at : ℕ) (s : Shape) (n : WrittenName) (b : ℕ) (body
 
     shaped : (o : Option (List Parameter)) (e : Env)
         → behind_parameters (λ run e. onward (declaration.need_plain_name n.last n.last_at e) (λ _. run)) o e
-        ≡ onward (definition.parameters_or n.last_at o e) (λ ps e. onward (bounds_constant s e) (λ _ e. onward (shut.declare g s n t e) (λ k e. shut.define_at k ps b body e)))
+        ≡ onward (definition.parameters_or n.last_at o e) (λ ps e. onward (bounds_constant s e) (λ _ e. onward (shut.declare g s n t e) (λ k e. onward (types_within count e) (λ _ e. shut.define_at k ps b body e))))
     unfolding shut.declare shut.define_at
     shaped None e = refl
     shaped (Some ps) e = without_check ps e
 
-    behind_is : (e : Env) → behind_type e ≡ shut.define_shape g s n t b body e
+    behind_is : (e : Env) → behind_type e ≡ shut.define_shape count g s n t b body e
     unfolding shut.define_shape
     behind_is e = shaped (function_of s) e
 
@@ -152,7 +154,7 @@ module _ (g : Gathered) (at : ℕ) (s : Shape) (n : WrittenName) (b : ℕ) (body
       (λ base e. onward (none_at (definition.definition_conflict (declaration.declares_function e base s) at g) 24 e)
       (λ _ e. onward (declaration.unqualified n e) (λ _ e. onward (declaration.no_definition g s e) (λ _. typed_then go base))))
 
-  written : (env : Env) → shut.named g at s n b body env ≡ in_order behind_type env
+  written : (env : Env) → shut.named count g at s n b body env ≡ in_order behind_type env
   unfolding shut.named
   written env = refl
 
@@ -195,9 +197,9 @@ module _ (g : Gathered) (at : ℕ) (s : Shape) (n : WrittenName) (b : ℕ) (body
       checking : ℕ → Elab ℕ
       checking base e = onward (declaration.no_definition g s e) (λ _. typing base)
 
-  pub named_is : (env : Env) → shut.named g at s n b body env ≡ onward (shut.function_typed g at s env) (λ t e. shut.define_shape g s n t b body e)
+  pub named_is : (env : Env) → shut.named count g at s n b body env ≡ onward (shut.function_typed g at s env) (λ t e. shut.define_shape count g s n t b body e)
   named_is env =
       written env ∙ without_qualified behind_type env ∙ sym (grouped behind_type env)
-      ∙ onward-same (shut.function_typed g at s env) behind_type (λ t e. shut.define_shape g s n t b body e) behind_is
+      ∙ onward-same (shut.function_typed g at s env) behind_type (λ t e. shut.define_shape count g s n t b body e) behind_is
 
 pub ruleset named_laws = (named_is, shape_grown, grown_laws)

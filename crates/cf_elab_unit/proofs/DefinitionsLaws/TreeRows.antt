@@ -41,11 +41,11 @@ function_is f env h =
 module _ (ss : List Specifier) (at : ℕ) (d : DeclTree) (body_at : ℕ) (body : List Stmt) (env : Env) where
   -- behind the words, where the table had so many types before
   abbrev behind_words : ℕ → List Word → Elab (Unit {0})
-  behind_words n ws e = onward (shut.behind_specifiers (gathered ws) at d body_at body e) (λ _. limits.types_within n)
+  behind_words n ws e = onward (shut.behind_specifiers n (gathered ws) at d body_at body e) (λ _. limits.types_within n)
 
   pub parts_are : (n : ℕ) → n ≡ length env.types.types → declaration.SpecifiersAreBuilt ss
       → shut.of_parts ss at d body_at body env
-      ≡ onward (declaration.words None ss env) (λ ws e. onward (shut.behind_specifiers (gathered ws) at d body_at body e) (λ _ e. limits.types_within n e))
+      ≡ onward (declaration.words None ss env) (λ ws e. onward (shut.behind_specifiers n (gathered ws) at d body_at body e) (λ _ e. limits.types_within n e))
   unfolding shut.of_parts shut.behind_specifiers limits.types_within
   parts_are n is built =
       words_then None ss (behind_words (length env.types.types)) env built
@@ -53,31 +53,31 @@ module _ (ss : List Specifier) (at : ℕ) (d : DeclTree) (body_at : ℕ) (body :
 
 pub ruleset part_laws = (parts_are, grown_laws)
 
-module _ (g : Gathered) (at : ℕ) (d : DeclTree) (body_at : ℕ) (body : List Stmt) (env : Env) where
+module _ (count : ℕ) (g : Gathered) (at : ℕ) (d : DeclTree) (body_at : ℕ) (body : List Stmt) (env : Env) where
   abbrev by_name : Option WrittenName → Answer (Unit {0})
-  by_name o = definition.with_written_name g at (declared d).shape [] (definition.body_of body_at (map tree.statement body)) o env
+  by_name o = definition.with_written_name count g at (declared d).shape [] (definition.body_of body_at (map tree.statement body)) o env
 
-  pub unnamed_is : None ≡ expression.name_of d → shut.behind_specifiers g at d body_at body env ≡ onward (expression.shape_of d env) (λ s env. Refused 26 at)
+  pub unnamed_is : None ≡ expression.name_of d → shut.behind_specifiers count g at d body_at body env ≡ onward (expression.shape_of d env) (λ s env. Refused 26 at)
   unfolding shut.behind_specifiers expression.name_of expression.shape_of
   unnamed_is none = ap by_name (sym none)
 
   abbrev by_scopes : WrittenName → List Name → Answer (Unit {0})
-  by_scopes n scopes = definition.definition_of_name g at (declared d).shape [] (definition.body_of body_at (map tree.statement body)) n scopes env
+  by_scopes n scopes = definition.definition_of_name count g at (declared d).shape [] (definition.body_of body_at (map tree.statement body)) n scopes env
 
   pub name_is : (n : WrittenName) → Some n ≡ expression.name_of d → of_name n ≡ None
-      → shut.behind_specifiers g at d body_at body env ≡ onward (expression.shape_of d env) (λ s env. shut.named g at s n body_at body env)
+      → shut.behind_specifiers count g at d body_at body env ≡ onward (expression.shape_of d env) (λ s env. shut.named count g at s n body_at body env)
   unfolding shut.behind_specifiers shut.named expression.name_of expression.shape_of
   name_is n is plain = ap by_name (sym is) ∙ ap (by_scopes n) (no_scopes n plain)
 
   -- with a name or without
-  pub shape_stops : expression.TreeIsBuilt d → (s : Stop) → Stops (expression.shape_of d env) s → Stops (shut.behind_specifiers g at d body_at body env) s
+  pub shape_stops : expression.TreeIsBuilt d → (s : Stop) → Stops (expression.shape_of d env) s → Stops (shut.behind_specifiers count g at d body_at body env) s
   shape_stops built s h = by (expression.name_of d) refl
     where
-      by : (o : Option WrittenName) → expression.name_of d ≡ o → Stops (shut.behind_specifiers g at d body_at body env) s
+      by : (o : Option WrittenName) → expression.name_of d ≡ o → Stops (shut.behind_specifiers count g at d body_at body env) s
       by None is =
           subst (λ a. Stops a s) (sym (unnamed_is (sym is))) (stops_onward (expression.shape_of d env) (λ x env. let none : Answer (Unit {0}) = Refused 26 at in none) s h)
       by (Some n) is =
           subst (λ a. Stops a s) (sym (name_is n (sym is) (name_plain d n built (sym is))))
-          (stops_onward (expression.shape_of d env) (λ x env. shut.named g at x n body_at body env) s h)
+          (stops_onward (expression.shape_of d env) (λ x env. shut.named count g at x n body_at body env) s h)
 
 pub ruleset specifier_laws = (unnamed_is, name_is, name_plain, type_grown_if, grown_laws)

@@ -10,6 +10,7 @@ use Rattle.cf_unit.specs.declared.specifier.Specifier.{Specifier}
 use Rattle.cf_unit.specs.declared.statement.Stmt.{Stmt}
 use Rattle.cf_elab.specs.Access.{outside}
 use Rattle.cf_elab.specs.Answer.{Elab, ◌>>=◌, ◌>>◌, gives, done, breaks, none_at, known, changed, hand_changed}
+use Rattle.cf_elab.specs.Complete.{types_within}
 use Rattle.cf_elab.specs.Declaration as declaration
 use Rattle.cf_elab.specs.Definition as definition
 use Rattle.cf_elab.specs.Env.{Hand, FunctionEntry, main_body, plain_body, local_home}
@@ -100,24 +101,25 @@ function_typed g at s = do
 unfoldable pub declare : Gathered → Shape → WrittenName → ℕ → Elab ℕ
 declare g s n t = int >>= (λ i. functions.declare_function i (declaration.function_says g n t s true false))
 
--- behind its type, with its body
-unfoldable pub define_shape : Gathered → Shape → WrittenName → ℕ → ℕ → List Stmt → Elab (Unit {0})
-define_shape g s n t at body = do
+-- behind its type, with its body; before the body no type that was made since there were so many is larger than the limit on sizes
+unfoldable pub define_shape : ℕ → Gathered → Shape → WrittenName → ℕ → ℕ → List Stmt → Elab (Unit {0})
+define_shape count g s n t at body = do
   ps ← definition.parameters_or n.last_at (function_of s)
   bounds_constant s
   k ← declare g s n t
+  types_within count
   define_at k ps at body
 
 -- the definition, without initialisers of members
-unfoldable pub named : Gathered → ℕ → Shape → WrittenName → ℕ → List Stmt → Elab (Unit {0})
-named g at s n body_at body = definition.named_definition g at s [] (definition.body_of body_at (map tree.statement body)) n
+unfoldable pub named : ℕ → Gathered → ℕ → Shape → WrittenName → ℕ → List Stmt → Elab (Unit {0})
+named count g at s n body_at body = definition.named_definition count g at s [] (definition.body_of body_at (map tree.statement body)) n
 
 -- ---- by its tree
 
 -- behind the specifiers
-unfoldable pub behind_specifiers : Gathered → ℕ → DeclTree → ℕ → List Stmt → Elab (Unit {0})
-behind_specifiers g at d body_at body =
-    definition.with_written_name g at (declared d).shape [] (definition.body_of body_at (map tree.statement body)) (declared d).name
+unfoldable pub behind_specifiers : ℕ → Gathered → ℕ → DeclTree → ℕ → List Stmt → Elab (Unit {0})
+behind_specifiers count g at d body_at body =
+    definition.with_written_name count g at (declared d).shape [] (definition.body_of body_at (map tree.statement body)) (declared d).name
 
 unfoldable pub of_parts : List Specifier → ℕ → DeclTree → ℕ → List Stmt → Elab (Unit {0})
 of_parts ss at d body_at body = tree.definition_row (map specifier ss) at (declared d) [] (definition.body_of body_at (map tree.statement body))

@@ -16,6 +16,7 @@ use crate::definitions::bodies::define_function;
 use crate::definitions::checks::check_conflict;
 use cf_base::{Broken, Rule};
 use cf_elab_env::{Env, Stop};
+use cf_elab_limits::check_types;
 use cf_elab_shape::{Position, Shape, check_bounds, typed};
 use cf_elab_specifiers::{Gathered, base_type};
 use cf_syntax::Name;
@@ -24,11 +25,12 @@ use cf_unit::Stmt;
 
 /// A function that is defined, by what its specifiers say, its declarator with its place, and its name: K24 at a specifier that conflicts; K26 at a
 /// type that is defined as its result, at a type that can't be made, and where it names no function; K19 at a bound; the checks of its declaration;
-/// and then its body, with the place of its `{`.
+/// the limit on sizes, for types that were made since there were so many; and then its body, with the place of its `{`.
 #[tactic(auto, using(crate::proofs::DefinitionsLaws::NamedLaws::named_laws))]
 pub(crate) fn define_named(
     body: &[Stmt],
     body_at: u32,
+    count: usize,
     gathered: &Gathered,
     at: u32,
     shape: &Shape,
@@ -39,11 +41,11 @@ pub(crate) fn define_named(
     requires name { of_name name.now ≡ None }
     requires named { IfSome gathered.now.named (λ t. IsType env.old.types t) }
     requires shape { IsShape env.old.types (shape_seen shape.now) }
-    ensures made { Agrees (shut.named gathered.now at (shape_seen shape.now) name.now body_at body.now env.old) result env.new }
+    ensures made { Agrees (shut.named count gathered.now at (shape_seen shape.now) name.now body_at body.now env.old) result env.new }
     ensures grows { OnOk result (Grows env.old.types env.new.types) }
 {
     let ty = function_typed(env, gathered, at, shape)?;
-    define_shape(body, body_at, gathered, shape, name, ty, env)?;
+    define_shape(body, body_at, count, gathered, shape, name, ty, env)?;
     Ok(())
 }
 
@@ -69,11 +71,12 @@ fn function_typed(env: &mut Env, gathered: &Gathered, at: u32, shape: &Shape) ->
     Ok(shaped.ty())
 }
 
-/// Behind its type: K26 where it names no function, and K19 at a bound that is no constant.
+/// Behind its type: K26 where it names no function, K19 at a bound that is no constant, and the limit on sizes before the body.
 #[tactic(auto, using(crate::proofs::DefinitionsLaws::NamedLaws::shape_laws))]
 fn define_shape(
     body: &[Stmt],
     body_at: u32,
+    count: usize,
     gathered: &Gathered,
     shape: &Shape,
     name: &Name,
@@ -85,7 +88,7 @@ fn define_shape(
     requires shape { IsShape env.old.types (shape_seen shape.now) }
     requires known { IsType env.old.types ty }
     requires function { (ps : List Parameter) → function_of (shape_seen shape.now) ≡ Some ps → IsFunctionSort (sort_of env.old.types ty) }
-    ensures made { Agrees (shut.define_shape gathered.now (shape_seen shape.now) name.now ty body_at body.now env.old) result env.new }
+    ensures made { Agrees (shut.define_shape count gathered.now (shape_seen shape.now) name.now ty body_at body.now env.old) result env.new }
     ensures grows { OnOk result (Grows env.old.types env.new.types) }
 {
     match shape.function_of() {
@@ -96,6 +99,7 @@ fn define_shape(
         Some(parameters) => {
             check_bounds(env, shape)?;
             let number = declare(env, gathered, shape, name, ty)?;
+            check_types(env, count)?;
             define_function(body, body_at, parameters.as_slice(), number, env)?;
             Ok(())
         }

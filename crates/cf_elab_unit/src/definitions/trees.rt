@@ -37,8 +37,8 @@ pub fn definition(f: &FunctionDef, env: &mut Env) -> Result<(), Stop>
     Ok(())
 }
 
-/// The same by its parts: first the specifiers, then the declarator, and then the body; at the end no type that was made is larger than the limit on
-/// sizes.
+/// The same by its parts: first the specifiers, then the declarator, and then the body; before the body and at the end no type that was made is larger than
+/// the limit on sizes.
 #[tactic(auto, using(crate::proofs::DefinitionsLaws::TreeRows::part_laws))]
 fn of_parts(
     body: &[Stmt],
@@ -57,7 +57,7 @@ fn of_parts(
     let count = env.types().count();
     let words = words(specifiers, None, env)?;
     let gathered = Gathered::of_words(words.as_slice());
-    behind_specifiers(body, body_at, declarator, at, &gathered, env)?;
+    behind_specifiers(body, body_at, count, declarator, at, &gathered, env)?;
     check_types(env, count)?;
     Ok(())
 }
@@ -67,6 +67,7 @@ fn of_parts(
 fn behind_specifiers(
     body: &[Stmt],
     body_at: u32,
+    count: usize,
     declarator: &DeclTree,
     at: u32,
     gathered: &Gathered,
@@ -75,7 +76,7 @@ fn behind_specifiers(
     requires body { body_of.AreBuilt body.now }
     requires tree { expression.TreeIsBuilt declarator.now }
     requires named { IfSome gathered.now.named (λ t. IsType env.old.types t) }
-    ensures made { Agrees (shut.behind_specifiers gathered.now at declarator.now body_at body.now env.old) result env.new }
+    ensures made { Agrees (shut.behind_specifiers count gathered.now at declarator.now body_at body.now env.old) result env.new }
     ensures grows { OnOk result (Grows env.old.types env.new.types) }
 {
     let shape = shape_of(declarator, env)?;
@@ -85,7 +86,7 @@ fn behind_specifiers(
             at,
         })),
         Some(name) => {
-            define_named(body, body_at, gathered, at, &shape, name, env)?;
+            define_named(body, body_at, count, gathered, at, &shape, name, env)?;
             Ok(())
         }
     }

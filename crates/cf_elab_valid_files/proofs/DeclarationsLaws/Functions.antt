@@ -13,7 +13,7 @@ use Rattle.cf_elab.specs.Arguments.{fun_at, result_of}
 use Rattle.cf_elab.specs.Complete.{within, most_name}
 use Rattle.cf_elab.specs.Env.{Env, Name, Entity, object, functions, alias, class_name, enum_name, enumerator, Default, FunctionEntry}
 use Rattle.cf_elab.specs.Functions as row
-use Rattle.cf_elab.specs.Functions.{Says, function_link, repeat_none, some_each, earlier_defaults, default_fault, new_defaults, says_internal, parameters_complete, is_library, entry, joins, entry_of, is_called_main, main_form, operator_form, is_function_set}
+use Rattle.cf_elab.specs.Functions.{Says, said_link, repeat_none, some_each, earlier_defaults, default_fault, new_defaults, says_internal, parameters_complete, is_library, entry, joins, entry_of, is_called_main, main_form, operator_form, is_function_set}
 use Rattle.cf_elab.specs.Names.{declared_here, redeclare, replaced}
 use Rattle.cf_elab.specs.Operand.{Sort, sort_of, ty_sort, pointer_sort, is_function}
 use Rattle.cf_elab.specs.Shape.{Parameter}
@@ -167,7 +167,7 @@ module _ (s : Scene) (scene : IsScene s) (d : Says) where
 
   module _ (e : Env) (no_defaults : NoDefaults d.parameters) (c : Classless e) (h : When s e (Holds s e)) (is : When s e (IsFun e d.type)) where
     new-entry : Fine s Any e (row.new_entry d e)
-    new-entry = defaults-still [] e refl no_defaults Any _ (by (parameters_complete e d) (e.extent.overloads || not (list_any (λ (f : FunctionEntry). bytes_eq f.name d.name) e.entries)) (e.extent.elsewhere || d.defines || d.is_initialised || list_any (bytes_eq d.name) e.defines) (nat_le (length (function_link e d.called d.type)) most_name))
+    new-entry = defaults-still [] e refl no_defaults Any _ (by (parameters_complete e d) (e.extent.overloads || not (list_any (λ (f : FunctionEntry). bytes_eq f.name d.name) e.entries)) (e.extent.elsewhere || d.defines || d.is_initialised || list_any (bytes_eq d.name) e.defines) (nat_le (length (said_link e d)) most_name))
       where
         fit : When s e ((n : ℕ) (f : FunctionEntry) → slice_get (e.entries ++ entry e d [] ∷ []) n ≡ Some f → EntryFits s e f)
         fit w n f at = elim (get-snoc e.entries (entry e d []) n f at) [ inl a ↦ (h w).entries n f a | inr b ↦ subst (EntryFits s e) b.1 (record { fun = (is w).fun; here = (is w).here }) ]

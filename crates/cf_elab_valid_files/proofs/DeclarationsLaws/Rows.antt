@@ -1,5 +1,5 @@
 -- Declarators of a declaration, in a function or outside of functions (3, 6.7, 7.1, 8).
-use Rattle.std.proofs.Common.{◌≡◌, ℕ, Bool, true, false, not, ◌&&◌, ◌||◌, if◌then◌else◌, is_some, nat_le, List, [], ◌∷◌, ◌++◌, Option, Some, None, slice_get, refl, sym, ap, subst, ◌∙◌}
+use Rattle.std.proofs.Common.{◌≡◌, ℕ, Bool, true, false, not, ◌&&◌, ◌||◌, if◌then◌else◌, is_some, nat_le, List, [], ◌∷◌, ◌++◌, length, Option, Some, None, slice_get, refl, sym, ap, subst, ◌∙◌}
 use Rattle.std.specs.Option.{option_map, option_map_or}
 use Rattle.cf_base.specs.declared.kind.Kind.TheVariants as kind
 use Rattle.cf_types.specs.declared.ty.Ty.TheVariants as ty
@@ -10,7 +10,7 @@ use Rattle.cf_base.specs.declared.limit.Bound.TheVariants as bound_of
 use Rattle.cf_core.specs.Types.{is_void as void_tree}
 use Rattle.cf_elab.specs.Answer.{Answer, Made, Elab, onward, need, none_at, gives, done}
 use Rattle.cf_elab.specs.Built as built
-use Rattle.cf_elab.specs.Complete.{complete, within, most_bytes, bytes_of, type_within}
+use Rattle.cf_elab.specs.Complete.{complete, within, most_bytes, bytes_of, type_within, types_within}
 use Rattle.cf_elab.specs.Declaration as row
 use Rattle.cf_elab.specs.Declaration.{Initial, initial_place, parts_of, Declares, conflict, declares_function, function_says, object_says, parameters_of, position_of, same_alias}
 use Rattle.cf_elab.specs.Declarator.{Declared}
@@ -39,6 +39,7 @@ use Rattle.cf_elab_valid_files.proofs.StaticsLaws.Names.{Any}
 use Rattle.cf_elab_valid_files.proofs.DeclarationsLaws.Declarators.{function-plain}
 use Rattle.cf_elab_valid_files.proofs.DeclarationsLaws.Entering.{named-fine, still-alone}
 use Rattle.cf_elab_valid_files.proofs.DeclarationsLaws.Functions.{IsFun, fun-later, function-there, declared-fine}
+use Rattle.cf_elab_valid_files.proofs.DeclarationsLaws.Words.{within-still}
 
 -- a function has no initialiser, and no name of a type
 initial-still : (w : Option Initial) (e : Env) → Still e (row.no_initialiser w e)
@@ -135,11 +136,11 @@ module _ (s : Scene) (scene : IsScene s) (arrays : NoVoidElements s.tables) (in_
     ended-fine : When s e (void_tree (tree s t) ≡ false) → Fine s Reaches e (onward (objects_of in_file g name at t parts w e) (λ nodes k. onward (type_within t k) (λ _. gives nodes)))
     ended-fine n =
         onward-fine s Reaches Reaches e (objects_of in_file g name at t parts w e) _ (objects g name at t parts w e here given c h i n)
-        (λ nodes e1 g1 c1 h1 r. still-fine s Reaches e1 (type_within t e1) (λ k. Made nodes k) (within-still e1 (nat_le (bytes_of e1 t) most_bytes)) (made-fine s Reaches e1 nodes c1 h1 r))
+        (λ nodes e1 g1 c1 h1 r. still-fine s Reaches e1 (type_within t e1) (λ k. Made nodes k) (size-still e1 (nat_le (bytes_of e1 t) most_bytes)) (made-fine s Reaches e1 nodes c1 h1 r))
       where
-        within-still : (f : Env) (b : Bool) → Still f (within b bound_of.Size most_bytes f)
-        within-still f true = refl
-        within-still f false = tt
+        size-still : (f : Env) (b : Bool) → Still f (within b bound_of.Size most_bytes f)
+        size-still f true = refl
+        size-still f false = tt
 
     object-fine : Fine s Reaches e (row.object_row in_file g name at t parts w e)
     object-fine = by (is_void (sort_of e.types t)) refl
@@ -209,10 +210,16 @@ module _ (s : Scene) (scene : IsScene s) (arrays : NoVoidElements s.tables) (in_
           (as-then s IsPlainShape ShapeThere Reaches e (d.declared.shape e) (λ x. row.named_declarator g d.at d.initial x n) (k.shape.fine e c h)
           (λ x e1 plain g1 c1 h1 f. named-declarator g d.at d.initial x n plain k.parts e1 (later e e1 g1 here) c1 h1 f (λ v. named-fits-later g e e1 g1 (m (within-before e e1 s g1 v)))))
 
+  -- and no type is larger than the limit
+  limited-fine : (g : Gathered) (d : Declares) (e : Env) → IsDeclarator s scene d → Here e → Classless e → When s e (Holds s e) → When s e (NamedFits g e) → Fine s Reaches e (row.limited_declarator g d e)
+  limited-fine g d e k here c h m =
+      onward-fine s Reaches Reaches e (row.declarator_row g d e) _ (declarator-fine g d e k here c h m)
+      (λ xs e1 g1 c1 h1 r. still-fine s Reaches e1 (types_within (length e.types.types) e1) (gives xs) (within-still s scene (length e.types.types) e1) (made-fine s Reaches e1 xs c1 h1 r))
+
   declarators-fine : (g : Gathered) (ds : List Declares) (e : Env) → AreDeclarators s scene ds → Here e → Classless e → When s e (Holds s e) → When s e (NamedFits g e) → Fine s Reaches e (row.declarators_row g ds e)
   declarators-fine g [] e k here c h m = made-fine s Reaches e [] c h (λ w. nothing)
   declarators-fine g (d ∷ ds) e k here c h m =
-      onward-fine s Reaches Reaches e (row.declarator_row g d e) _ (declarator-fine g d e k.0 here c h m)
+      onward-fine s Reaches Reaches e (row.limited_declarator g d e) _ (limited-fine g d e k.0 here c h m)
       (λ xs e1 g1 c1 h1 r. onward-fine s Reaches Reaches e1 (row.declarators_row g ds e1) (λ ys. gives (xs ++ ys))
       (declarators-fine g ds e1 k.1 (later e e1 g1 here) c1 h1 (λ v. named-fits-later g e e1 g1 (m (within-before e e1 s g1 v))))
       (λ ys e2 g2 c2 h2 q. made-fine s Reaches e2 (xs ++ ys) c2 h2 (λ w. joined xs ys (r (within-before e1 e2 s g2 w)) (q w))))

@@ -125,7 +125,7 @@ defined-checked : (specifiers : List SpecifierRow) (at : ℕ) (d : Declared) (in
 defined-checked specifiers at d inits body e =
     checked-onward (length e.types.types) (words None specifiers e) _
     (λ ws f. checked-onward (length e.types.types) (ws.later f) _
-    (λ u g. checked-onward (length e.types.types) (with_written_name (gathered ws.list) at d.shape inits body d.name g) _
+    (λ u g. checked-onward (length e.types.types) (with_written_name (length e.types.types) (gathered ws.list) at d.shape inits body d.name g) _
     (λ v k. checked-last (length e.types.types) k)))
 
 item-checked : (x : Item) → built.of_item x ≡ None → (e : Env) → CheckedIn (length e.types.types) (item_row x e)

@@ -21,7 +21,8 @@ use Rattle.cf_elab.specs.Declaration.{parameters_of, declares_function, function
 use Rattle.cf_elab.specs.Declaration as declaration_row
 use Rattle.cf_elab.specs.Declarator.{Declared}
 use Rattle.cf_elab.specs.Definition as row
-use Rattle.cf_elab.specs.Definition.{body_of, definition_conflict}
+use Rattle.cf_elab.specs.Complete.{types_within}
+use Rattle.cf_elab.specs.Definition.{body_of, definition_conflict, are_some}
 use Rattle.cf_elab.specs.Env.{Env, FunctionEntry}
 use Rattle.cf_elab.specs.Expression.{declared}
 use Rattle.cf_elab.specs.Functions.{declare_function}
@@ -94,15 +95,16 @@ module _ (s : Scene) (end : IsFileEnd s) (body_at : ℕ) (ss : List (Elab MadeOf
 
   -- ---- by the type of its declarator
 
-  module _ (g : Gathered) (at : ℕ) (x : Shape) (inits : List WrittenInit) (n : WrittenName) (plain : IsPlainShape x) where
+  module _ (count : ℕ) (g : Gathered) (at : ℕ) (x : Shape) (inits : List WrittenInit) (n : WrittenName) (plain : IsPlainShape x) where
     abbrev declares : List Parameter → ℕ → Env → Answer (Unit {0})
     declares ps t e =
         onward (bounds_constant x e)
         (λ _ f. onward (declaration_row.need_plain_name n.last n.last_at f)
         (λ _ f. onward (int f)
-        (λ i f. onward (declare_function i (function_says g n t x true false) f)
+        (λ i f. onward (declare_function i (function_says g n t x true (are_some inits)) f)
         (λ k f. onward (row.no_initialisers inits f)
-        (λ _ f. row.define_function ps (body_of body_at ss) (slice_get f.entries k) f)))))
+        (λ _ f. onward (types_within count f)
+        (λ _ f. row.define_function ps (body_of body_at ss) (slice_get f.entries k) f))))))
 
     parameters-plain : NoDefaults (parameters_of x)
     parameters-plain = by (function_of x) refl
@@ -116,16 +118,18 @@ module _ (s : Scene) (end : IsFileEnd s) (body_at : ℕ) (ss : List (Elab MadeOf
         still-fine s Any e (bounds_constant x e) _ (bounds_still s end.scene x e)
         (still-fine s Any e (declaration_row.need_plain_name n.last n.last_at e) _ (plain-still n.last n.last_at e) (typed-int (int e) (of_kind-fine s kind.Int e c h) (intern-some (ty.Int kind.Int) e)))
       where
-        typed-int : (r : Answer ℕ) → Fine s (IsType (ty.Int kind.Int)) e r → IsSome r → Fine s Any e (onward r (λ i f. onward (declare_function i (function_says g n t x true false) f)
+        typed-int : (r : Answer ℕ) → Fine s (IsType (ty.Int kind.Int)) e r → IsSome r → Fine s Any e (onward r (λ i f. onward (declare_function i (function_says g n t x true (are_some inits)) f)
             (λ k f. onward (row.no_initialisers inits f)
-            (λ _ f. row.define_function ps (body_of body_at ss) (slice_get f.entries k) f))))
+            (λ _ f. onward (types_within count f)
+            (λ _ f. row.define_function ps (body_of body_at ss) (slice_get f.entries k) f)))))
         typed-int (Made i e1) q some =
             fine-before s Any e e1 _ q.steps
-            (onward-fine s Any Any e1 (declare_function i (function_says g n t x true false) e1) _
-            (declared-fine s end.scene (function_says g n t x true false) i e1 parameters-plain q.classless q.holds (λ w. fun-later e e1 t q.steps (fun (within-before e e1 s q.steps w))))
+            (onward-fine s Any Any e1 (declare_function i (function_says g n t x true (are_some inits)) e1) _
+            (declared-fine s end.scene (function_says g n t x true (are_some inits)) i e1 parameters-plain q.classless q.holds (λ w. fun-later e e1 t q.steps (fun (within-before e e1 s q.steps w))))
             (λ k e2 g2 c2 h2 any. still-fine s Any e2 (row.no_initialisers inits e2) _ (inits-still inits e2)
+            (still-fine s Any e2 (types_within count e2) _ (within-still s end.scene count e2)
             (entry-fine ps k e2 (let longer = begins-longer e1.types.types e2.types.types g2.types in omega (arith, some, longer)) c2 h2
-            (λ w. let step = steps-through e e1 e2 q.steps g2 in function-params x ps e2 is (shape-later e e2 x step (f (within-before e e2 s step w)))))))
+            (λ w. let step = steps-through e e1 e2 q.steps g2 in function-params x ps e2 is (shape-later e e2 x step (f (within-before e e2 s step w))))))))
         typed-int (Refused rule place) q some = tt
         typed-int (Passed bound most) q some = tt
 
@@ -149,7 +153,7 @@ module _ (s : Scene) (end : IsFileEnd s) (body_at : ℕ) (ss : List (Elab MadeOf
             given (whole t) e1 c1 h1 f1 p = declares-fine ps t e1 is c1 h1 f1 p
             given (unbounded t) e1 c1 h1 f1 p = declares-fine ps t e1 is c1 h1 f1 (λ w. absurd (p w))
 
-    named-definition : (e : Env) → Classless e → When s e (Holds s e) → When s e (ShapeThere x e) → When s e (NamedFits g e) → Fine s Any e (row.named_definition g at x inits (body_of body_at ss) n e)
+    named-definition : (e : Env) → Classless e → When s e (Holds s e) → When s e (ShapeThere x e) → When s e (NamedFits g e) → Fine s Any e (row.named_definition count g at x inits (body_of body_at ss) n e)
     named-definition e c h f m =
         onward-fine s IsThere Any e (base_type g e) _ (base-fine s end.scene g e c h m)
         (λ base e1 g1 c1 h1 ib. still-fine s Any e1 (none_at (definition_conflict (declares_function e1 base x) at g) 24 e1) _ (none_still (definition_conflict (declares_function e1 base x) at g) 24 e1)
@@ -158,23 +162,23 @@ module _ (s : Scene) (end : IsFileEnd s) (body_at : ℕ) (ss : List (Elab MadeOf
 
   -- ---- by its name
 
-  written-fine : (g : Gathered) (at : ℕ) (d : Declared) (inits : List WrittenInit) (e : Env) → IsShape s end.scene d.shape → ((n : WrittenName) → d.name ≡ Some n → n.scopes ≡ []) → Classless e → When s e (Holds s e) → When s e (NamedFits g e)
-      → Fine s Any e (row.with_written_name g at d.shape inits (body_of body_at ss) d.name e)
-  written-fine g at d inits e shape plain_name c h m = by d.name refl
+  written-fine : (count : ℕ) (g : Gathered) (at : ℕ) (d : Declared) (inits : List WrittenInit) (e : Env) → IsShape s end.scene d.shape → ((n : WrittenName) → d.name ≡ Some n → n.scopes ≡ []) → Classless e → When s e (Holds s e) → When s e (NamedFits g e)
+      → Fine s Any e (row.with_written_name count g at d.shape inits (body_of body_at ss) d.name e)
+  written-fine count g at d inits e shape plain_name c h m = by d.name refl
     where
-      by : (o : Option WrittenName) → d.name ≡ o → Fine s Any e (row.with_written_name g at d.shape inits (body_of body_at ss) o e)
+      by : (o : Option WrittenName) → d.name ≡ o → Fine s Any e (row.with_written_name count g at d.shape inits (body_of body_at ss) o e)
       by None is = as-then s IsPlainShape ShapeThere Any e (d.shape e) _ (shape.fine e c h) (λ x e1 plain g1 c1 h1 f. tt)
       by (Some n) is =
-          subst (λ l. Fine s Any e (row.definition_of_name g at d.shape inits (body_of body_at ss) n l e)) (sym (plain_name n is))
-          (as-then s IsPlainShape ShapeThere Any e (d.shape e) (λ x. row.named_definition g at x inits (body_of body_at ss) n) (shape.fine e c h)
-          (λ x e1 plain g1 c1 h1 f. named-definition g at x inits n plain e1 c1 h1 f (λ v. named-fits-later g e e1 g1 (m (within-before e e1 s g1 v)))))
+          subst (λ l. Fine s Any e (row.definition_of_name count g at d.shape inits (body_of body_at ss) n l e)) (sym (plain_name n is))
+          (as-then s IsPlainShape ShapeThere Any e (d.shape e) (λ x. row.named_definition count g at x inits (body_of body_at ss) n) (shape.fine e c h)
+          (λ x e1 plain g1 c1 h1 f. named-definition count g at x inits n plain e1 c1 h1 f (λ v. named-fits-later g e e1 g1 (m (within-before e e1 s g1 v)))))
 
   row-fine : (xs : List SpecifierRow) (at : ℕ) (d : Declared) (inits : List WrittenInit) (e : Env) → AreSpecifiers s xs → IsShape s end.scene d.shape → ((n : WrittenName) → d.name ≡ Some n → n.scopes ≡ []) → Classless e → When s e (Holds s e)
       → Fine s Any e (tree.definition_row xs at d inits (body_of body_at ss) e)
   row-fine xs at d inits e k shape plain_name c h =
       words-then s end.scene Any None xs e _ k c h
-      (λ ws later e1 g1 c1 h1 f. onward-fine s Any Any e1 (row.with_written_name (gathered ws) at d.shape inits (body_of body_at ss) d.name e1) _
-      (written-fine (gathered ws) at d inits e1 shape plain_name c1 h1 (λ v. gathered_named ws e1 (f v)))
+      (λ ws later e1 g1 c1 h1 f. onward-fine s Any Any e1 (row.with_written_name (length e.types.types) (gathered ws) at d.shape inits (body_of body_at ss) d.name e1) _
+      (written-fine (length e.types.types) (gathered ws) at d inits e1 shape plain_name c1 h1 (λ v. gathered_named ws e1 (f v)))
       (λ u e2 g2 c2 h2 any. still-alone s e2 _ (within-still s end.scene (length e.types.types) e2) c2 h2))
 
 -- ---- by its tree

@@ -2,7 +2,8 @@
 use Rattle.std.proofs.Common.{◌≡◌, ℕ, zero, suc, ◌+◌, ◌*◌, List, [], ◌∷◌, ◌++◌, map, refl, ap, sym, ◌∙◌, inl}
 use Rattle.std.specs.Prelude.{Option, Some, None, pos}
 use Rattle.std.proofs.lemmas.List.{map-append}
-use Rattle.cf_base.specs.declared.kind.Kind.TheVariants.{Char, Int}
+use Rattle.cf_base.specs.declared.kind.Kind.{Kind}
+use Rattle.cf_base.specs.declared.kind.Kind.TheVariants.{Int}
 use Rattle.cf_base.specs.declared.arith.Arith.TheVariants as op
 use Rattle.cf_base.specs.Integers.{convert as converted_to}
 use Rattle.cf_core.specs.Types.{Name, SourceType, void, array, const, result as result_type}
@@ -22,8 +23,8 @@ use Rattle.cc_whole_sections.specs.Sections.{Every}
 use Rattle.cc_whole_sections.proofs.Names.{in-left, in-right}
 use Rattle.cf_lower.specs.Kept.{Kept, holds, argument, Keeping, local_kept, kept_by, after, untouched}
 use Rattle.cf_lower.specs.Written.{if_scalar, c_type, int_constant, local_name, flag_name, result_name, register_name}
-use Rattle.cf_lower.specs.Expressions.{zero as nought, integer_in, address_in, value_in, as_value, as_stored, value}
-use Rattle.cf_lower.specs.Statements.{Inside, block, set_register, put, stored, stored_in, first_in, behind, for_each, zeros, zeros_in, put_bytes, bytes_in, passed, signature, called, through, done, put_in, kept, no_value, given, flag_set, if_flag, in_stepped, in_loop, in_switch, stated_all, lowered, all_lowered, items}
+use Rattle.cf_lower.specs.Expressions.{zero as nought, constant_of, integer_in, address_in, value_in, as_value, as_stored, value}
+use Rattle.cf_lower.specs.Statements.{Inside, block, set_register, put, stored, stored_in, first_in, behind, for_each, zeros, zeros_in, put_bytes, kind_in, bytes_in, passed, signature, called, through, done, put_in, kept, no_value, given, flag_set, if_flag, in_stepped, in_loop, in_switch, stated_all, lowered, all_lowered, items}
 use Rattle.cf_lower_alone.proofs.AloneLaws.After.{kept-same, untouched-same, after-same}
 use Rattle.cf_lower_alone.proofs.AloneLaws.Values.{KeepsOwn, Goes, Stays, register-stays, held-stays, binary-stays, value-with}
 
@@ -106,17 +107,17 @@ module _ (r : Renaming) (own : KeepsOwn r) where
   zeros-in-stay classes (holds (address t)) p = zeros-stay classes t (address_in p) 0 (address-stays p)
   zeros-in-stay classes x p = refl
 
-  pub put-bytes-with : (p p' : Expression) (i : ℕ) (bs : List ℕ) → expression_with p r ≡ p' → all_with (put_bytes p i bs) ≡ put_bytes p' i bs
-  put-bytes-with p p' i [] h = refl
-  put-bytes-with p p' i (b ∷ bs) h =
-      let value : Expression = constant (constants.Signed (converted_to Char (pos b))) in
-      one-with (put (number Char) (behind p i) value) (put (number Char) (behind p' i) value) (put_bytes p (suc i) bs) (put_bytes p' (suc i) bs)
-      (put-with (number Char) (behind p i) (behind p' i) value value (ap (λ x. behind x i) h) refl) (put-bytes-with p p' (suc i) bs h)
+  pub put-bytes-with : (k : Kind) (p p' : Expression) (i : ℕ) (bs : List ℕ) → expression_with p r ≡ p' → all_with (put_bytes k p i bs) ≡ put_bytes k p' i bs
+  put-bytes-with k p p' i [] h = refl
+  put-bytes-with k p p' i (b ∷ bs) h =
+      let value : Expression = constant_of (converted_to k (pos b)) in
+      one-with (put (number k) (behind p i) value) (put (number k) (behind p' i) value) (put_bytes k p (suc i) bs) (put_bytes k p' (suc i) bs)
+      (put-with (number k) (behind p i) (behind p' i) value value (ap (λ x. behind x i) h) refl) (put-bytes-with k p p' (suc i) bs h)
 
   bytes-stay : (classes : List Class) (x : Kept) (p : Register) (bs : List ℕ) → AllStay (bytes_in classes x p bs)
   bytes-stay classes x p bs =
-      append-with (zeros_in classes x p) (put_bytes (address_in p) 0 bs) (zeros_in classes x p) (put_bytes (address_in p) 0 bs) (zeros-in-stay classes x p)
-      (put-bytes-with (address_in p) (address_in p) 0 bs (address-stays p))
+      append-with (zeros_in classes x p) (put_bytes (kind_in x) (address_in p) 0 bs) (zeros_in classes x p) (put_bytes (kind_in x) (address_in p) 0 bs)
+      (zeros-in-stay classes x p) (put-bytes-with (kind_in x) (address_in p) (address_in p) 0 bs (address-stays p))
 
   -- ---- calls
 

@@ -6,4 +6,4 @@ use Rattle.cf_lower_constants.proofs.stores.put_bytes.Given as goal
 
 abbrev pub invariant-loop-byte : goal.invariant-loop-byte
 invariant-loop-byte l =
-    written l.code ++ spec.put_bytes (definition.at_byte l.name l.at) l.index (drop l.byte-index l.bytes) ≡ written l.initial.code ++ spec.put_bytes (definition.at_byte l.name l.at) 0 l.bytes
+    written l.code ++ spec.put_bytes l.kind (definition.at_byte l.name l.at) l.index (drop l.byte-index l.bytes) ≡ written l.initial.code ++ spec.put_bytes l.kind (definition.at_byte l.name l.at) 0 l.bytes

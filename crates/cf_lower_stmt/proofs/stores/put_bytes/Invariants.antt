@@ -6,4 +6,4 @@ use Rattle.cf_lower_stmt.proofs.stores.put_bytes.Given as goal
 
 abbrev pub invariant-loop-byte : goal.invariant-loop-byte
 invariant-loop-byte l =
-    written l.code ++ spec.put_bytes (address_in l.place) l.at (drop l.byte-index l.bytes) ≡ written l.initial.code ++ spec.put_bytes (address_in l.place) 0 l.bytes
+    written l.code ++ spec.put_bytes l.kind (address_in l.place) l.at (drop l.byte-index l.bytes) ≡ written l.initial.code ++ spec.put_bytes l.kind (address_in l.place) 0 l.bytes

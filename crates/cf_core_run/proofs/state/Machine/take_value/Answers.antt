@@ -52,11 +52,11 @@ returns-in-Callee-clause-comes c = λ p. value-as p c.args.self.now (λ T. go_va
     (λ T s w. ap (λ (x : ValueMark). go_value T p c.args.self.now.fuel x (value_of c.args.v) s w) c.in-Callee.is)
 
 pub returns-in-Element-clause-comes : goal.returns-in-Element-clause-comes
-returns-in-Element-clause-comes c = λ p. value-as p c.args.self.now (λ T. go_value T p c.args.self.now.fuel c.args.mark (value_of c.args.v)) (λ T. go_value T p c.args.self.now.fuel (vm.Element c.in-Element.element c.in-Element.listing) (value_of c.args.v)) c.element.result c.element.new.self (c.element.ensures.comes p)
+returns-in-Element-clause-comes c = λ p. value-as p c.args.self.now (λ T. go_value T p c.args.self.now.fuel c.args.mark (value_of c.args.v)) (λ T. go_value T p c.args.self.now.fuel (vm.Element c.in-Element.listing) (value_of c.args.v)) c.element.result c.element.new.self (c.element.ensures.comes p)
     (λ T s w. ap (λ (x : ValueMark). go_value T p c.args.self.now.fuel x (value_of c.args.v) s w) c.in-Element.is)
 
 pub returns-in-Constant-clause-comes : goal.returns-in-Constant-clause-comes
-returns-in-Constant-clause-comes c = λ p. value-as p c.args.self.now (λ T. go_value T p c.args.self.now.fuel c.args.mark (value_of c.args.v)) (λ T. go_value T p c.args.self.now.fuel (vm.Constant c.in-Constant.number c.in-Constant.rest) (value_of c.args.v)) c.constant.result c.constant.new.self (c.constant.ensures.comes p)
+returns-in-Constant-clause-comes c = λ p. value-as p c.args.self.now (λ T. go_value T p c.args.self.now.fuel c.args.mark (value_of c.args.v)) (λ T. go_value T p c.args.self.now.fuel (vm.Constant c.in-Constant.rest) (value_of c.args.v)) c.constant.result c.constant.new.self (c.constant.ensures.comes p)
     (λ T s w. ap (λ (x : ValueMark). go_value T p c.args.self.now.fuel x (value_of c.args.v) s w) c.in-Constant.is)
 
 pub returns-in-Library-clause-comes : goal.returns-in-Library-clause-comes
@@ -104,3 +104,10 @@ returns-in-Constant-clause-within c = λ p. omega (arith, c.constant.ensures.wit
 
 pub returns-in-Whole-clause-within : goal.returns-in-Whole-clause-within
 returns-in-Whole-clause-within c = λ p. omega (arith, c.close_whole.ensures.within p, ap behind_value c.in-Whole.is)
+
+pub returns-in-Stored-clause-comes : goal.returns-in-Stored-clause-comes
+returns-in-Stored-clause-comes c = λ p. value-as p c.args.self.now (λ T. go_value T p c.args.self.now.fuel c.args.mark (value_of c.args.v)) (λ T. go_value T p c.args.self.now.fuel (vm.Stored c.in-Stored.goal c.in-Stored.around) (value_of c.args.v)) c.close_stored.result c.close_stored.new.self (c.close_stored.ensures.comes p)
+    (λ T s w. ap (λ (x : ValueMark). go_value T p c.args.self.now.fuel x (value_of c.args.v) s w) c.in-Stored.is)
+
+pub returns-in-Stored-clause-within : goal.returns-in-Stored-clause-within
+returns-in-Stored-clause-within c = λ p. omega (arith, c.close_stored.ensures.within p, ap behind_value c.in-Stored.is)

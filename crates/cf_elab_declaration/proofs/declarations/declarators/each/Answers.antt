@@ -17,8 +17,8 @@ loop-d-init c =
       grows = grows-refl c.args.env.now.types;
     }
 
-pub declarator-requires-clause-built : goal.declarator-requires-clause-built
-declarator-requires-clause-built c = one_declarator c.args.declarators.now c.loop-d.d-index c.d-item.result c.requires.built c.loop-d-test.true c.d-item.is
+pub limited-requires-clause-built : goal.limited-requires-clause-built
+limited-requires-clause-built c = one_declarator c.args.declarators.now c.loop-d.d-index c.d-item.result c.requires.built c.loop-d-test.true c.d-item.is
 
 pub returns-in_err-reached-clause-made : goal.returns-in_err-reached-clause-made
 returns-in_err-reached-clause-made c =
@@ -30,7 +30,7 @@ returns-in_err-reached-clause-made c =
 pub loop-d-preserved : goal.loop-d-preserved
 loop-d-preserved c =
     let g = c.args.gathered.now in
-    let next = c.declarator.new.env in
+    let next = c.limited.new.env in
     let more = declarators_go (shut.declarators g c.args.declarators.now c.args.env.now) g c.loop-d.found c.args.declarators.now c.loop-d.d-index c.d-item.result c.loop-d.env
     c.loop-d.invariant.made c.loop-d-test.true c.d-item.is (maybe_reached c.in_ok-reached.reached) next c.in_ok-reached.ensures.made in
     record {

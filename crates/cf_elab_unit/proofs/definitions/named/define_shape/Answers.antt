@@ -8,22 +8,28 @@ pub returns-in_err-check_bounds-in-Some-clause-made : goal.returns-in_err-check_
 returns-in_err-check_bounds-in-Some-clause-made c =
     let s = shape_seen c.args.shape.now in
     let there : Some c.in-Some.parameters.now ≡ function_of s = search rules in
-    rw (shape_is c.args.gathered.now s c.args.name.now c.args.ty c.args.body_at c.args.body.now c.args.env.now c.in-Some.parameters.now there) (search rules)
+    rw (shape_is c.args.count c.args.gathered.now s c.args.name.now c.args.ty c.args.body_at c.args.body.now c.args.env.now c.in-Some.parameters.now there) (search rules)
 
 pub returns-in_err-number-in-Some-clause-made : goal.returns-in_err-number-in-Some-clause-made
 returns-in_err-number-in-Some-clause-made c =
     let s = shape_seen c.args.shape.now in
     let there : Some c.in-Some.parameters.now ≡ function_of s = search rules in
-    rw (shape_is c.args.gathered.now s c.args.name.now c.args.ty c.args.body_at c.args.body.now c.args.env.now c.in-Some.parameters.now there) (search rules)
+    rw (shape_is c.args.count c.args.gathered.now s c.args.name.now c.args.ty c.args.body_at c.args.body.now c.args.env.now c.in-Some.parameters.now there) (search rules)
+
+pub returns-in_err-check_types-in-Some-clause-made : goal.returns-in_err-check_types-in-Some-clause-made
+returns-in_err-check_types-in-Some-clause-made c =
+    let s = shape_seen c.args.shape.now in
+    let there : Some c.in-Some.parameters.now ≡ function_of s = search rules in
+    rw (shape_is c.args.count c.args.gathered.now s c.args.name.now c.args.ty c.args.body_at c.args.body.now c.args.env.now c.in-Some.parameters.now there) (search rules)
 
 pub returns-in_err-define_function-in-Some-clause-made : goal.returns-in_err-define_function-in-Some-clause-made
 returns-in_err-define_function-in-Some-clause-made c =
     let s = shape_seen c.args.shape.now in
     let there : Some c.in-Some.parameters.now ≡ function_of s = search rules in
-    rw (shape_is c.args.gathered.now s c.args.name.now c.args.ty c.args.body_at c.args.body.now c.args.env.now c.in-Some.parameters.now there) (search rules)
+    rw (shape_is c.args.count c.args.gathered.now s c.args.name.now c.args.ty c.args.body_at c.args.body.now c.args.env.now c.in-Some.parameters.now there) (search rules)
 
 pub returns-in_ok-define_function-in-Some-clause-made : goal.returns-in_ok-define_function-in-Some-clause-made
 returns-in_ok-define_function-in-Some-clause-made c =
     let s = shape_seen c.args.shape.now in
     let there : Some c.in-Some.parameters.now ≡ function_of s = search rules in
-    rw (shape_is c.args.gathered.now s c.args.name.now c.args.ty c.args.body_at c.args.body.now c.args.env.now c.in-Some.parameters.now there) (search rules)
+    rw (shape_is c.args.count c.args.gathered.now s c.args.name.now c.args.ty c.args.body_at c.args.body.now c.args.env.now c.in-Some.parameters.now there) (search rules)

@@ -10,7 +10,7 @@ pub returns-in_err-shape-clause-made : goal.returns-in_err-shape-clause-made
 returns-in_err-shape-clause-made c =
     let p = err_from_is_err_and c.from_residual.result c.from_residual.ensures.1 in
     rw (p.1, p.2)
-    (shape_stops c.args.gathered.now c.args.at c.args.declarator.now c.args.body_at c.args.body.now c.args.env.now c.requires.tree c.in_err-shape.field-0.0 (search rules))
+    (shape_stops c.args.count c.args.gathered.now c.args.at c.args.declarator.now c.args.body_at c.args.body.now c.args.env.now c.requires.tree c.in_err-shape.field-0.0 (search rules))
 
 pub returns-in_err-define_named-in-Some-clause-made : goal.returns-in_err-define_named-in-Some-clause-made
 returns-in_err-define_named-in-Some-clause-made c =
@@ -18,7 +18,7 @@ returns-in_err-define_named-in-Some-clause-made c =
     let n = c.in-Some.name.now in
     let there : Some n ≡ expression.name_of d = search rules in
     let plain : of_name n ≡ None = name_plain d n c.requires.tree there in
-    rw (name_is c.args.gathered.now c.args.at d c.args.body_at c.args.body.now c.args.env.now n there plain) (search rules)
+    rw (name_is c.args.count c.args.gathered.now c.args.at d c.args.body_at c.args.body.now c.args.env.now n there plain) (search rules)
 
 pub returns-clause-made : goal.returns-clause-made
 returns-clause-made c =
@@ -26,4 +26,4 @@ returns-clause-made c =
     let n = c.in-Some.name.now in
     let there : Some n ≡ expression.name_of d = search rules in
     let plain : of_name n ≡ None = name_plain d n c.requires.tree there in
-    rw (name_is c.args.gathered.now c.args.at d c.args.body_at c.args.body.now c.args.env.now n there plain) (search rules)
+    rw (name_is c.args.count c.args.gathered.now c.args.at d c.args.body_at c.args.body.now c.args.env.now n there plain) (search rules)
