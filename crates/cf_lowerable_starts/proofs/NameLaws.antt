@@ -19,27 +19,36 @@ module _ (name : Name) (t : SourceType) where
   abbrev asked : Bool → Bool → Bool → Bool
   asked p g x = not ((p || g) || x) || type_eq (without_const (if p then puts else (if x then exits else gets))) (without_const t)
 
-  module _ (b : Bool) where
-    pub puts_named : bytes_eq name (codes "putchar") ≡ true → b ≡ type_eq puts (without_const t) → b ≡ may_be_named name t
-    puts_named e is = is ∙ sym (ap (λ p. asked p (bytes_eq name (codes "getchar")) (bytes_eq name (codes "exit"))) e)
+  abbrev put : Bool
+  put = bytes_eq name (codes "putchar")
 
-    module _ (other : bytes_eq name (codes "putchar") ≡ false) where
+  abbrev get : Bool
+  get = bytes_eq name (codes "getchar")
+
+  abbrev exit : Bool
+  exit = bytes_eq name (codes "exit")
+
+  module _ (p : Bool) (of_put : p ≡ put) where
+    pub puts_named : (b : Bool) → p ≡ true → b ≡ type_eq puts (without_const t) → b ≡ may_be_named name t
+    puts_named b e is = is ∙ sym (ap (λ c. asked c get exit) (sym of_put ∙ e))
+
+    module _ (other : p ≡ false) (x : Bool) (of_exit : x ≡ exit) where
       exits_by : (g : Bool) → type_eq exits (without_const t) ≡ asked false g true
       exits_by true = refl
       exits_by false = refl
 
-      pub exits_named : bytes_eq name (codes "exit") ≡ true → b ≡ type_eq exits (without_const t) → b ≡ may_be_named name t
-      exits_named e is =
-          is ∙ exits_by (bytes_eq name (codes "getchar")) ∙ sym (ap (λ x. asked false (bytes_eq name (codes "getchar")) x) e)
-          ∙ sym (ap (λ p. asked p (bytes_eq name (codes "getchar")) (bytes_eq name (codes "exit"))) other)
+      not_put : asked false get exit ≡ may_be_named name t
+      not_put = sym (ap (λ c. asked c get exit) (sym of_put ∙ other))
 
-      module _ (none : bytes_eq name (codes "exit") ≡ false) where
-        pub gets_named : bytes_eq name (codes "getchar") ≡ true → b ≡ type_eq gets (without_const t) → b ≡ may_be_named name t
-        gets_named e is =
-            is ∙ sym (ap (λ g. asked false g false) e) ∙ sym (ap (λ x. asked false (bytes_eq name (codes "getchar")) x) none)
-            ∙ sym (ap (λ p. asked p (bytes_eq name (codes "getchar")) (bytes_eq name (codes "exit"))) other)
+      pub exits_named : (b : Bool) → x ≡ true → b ≡ type_eq exits (without_const t) → b ≡ may_be_named name t
+      exits_named b e is = is ∙ exits_by get ∙ sym (ap (λ c. asked false get c) (sym of_exit ∙ e)) ∙ not_put
 
-        pub any_named : bytes_eq name (codes "getchar") ≡ false → true ≡ may_be_named name t
-        any_named e =
-            sym (ap (λ g. asked false g false) e) ∙ sym (ap (λ x. asked false (bytes_eq name (codes "getchar")) x) none)
-            ∙ sym (ap (λ p. asked p (bytes_eq name (codes "getchar")) (bytes_eq name (codes "exit"))) other)
+      module _ (none : x ≡ false) (g : Bool) (of_get : g ≡ get) where
+        not_exit : asked false get false ≡ may_be_named name t
+        not_exit = sym (ap (λ c. asked false get c) (sym of_exit ∙ none)) ∙ not_put
+
+        pub gets_named : (b : Bool) → g ≡ true → b ≡ type_eq gets (without_const t) → b ≡ may_be_named name t
+        gets_named b e is = is ∙ sym (ap (λ c. asked false c false) (sym of_get ∙ e)) ∙ not_exit
+
+        pub any_named : g ≡ false → true ≡ may_be_named name t
+        any_named e = sym (ap (λ c. asked false c false) (sym of_get ∙ e)) ∙ not_exit

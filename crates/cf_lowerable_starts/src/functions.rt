@@ -1,6 +1,6 @@
 //! Whether a function of the library has its type.
 
-ghost use Rattle.std.specs.Prelude.{◌≡◌, ◌==◌, false};
+ghost use Rattle.std.specs.Prelude.{◌≡◌, ◌==◌, bytes_eq, false};
 ghost use Rattle.cf_base.specs.declared.kind.Kind.TheVariants as kind;
 ghost use Rattle.cf_core.specs.FromTypes.{type_of};
 ghost use Rattle.cf_core.specs.Types.{gives, integer, kind_number, takes, type_eq, void};
@@ -129,18 +129,25 @@ fn gets(tables: &Tables<'_>, id: TyId) -> bool
     }
 }
 
+/// Whether two names are the same.
+pub(crate) fn is_same(a: &[u8], b: &[u8]) -> bool
+    ensures { result ≡ bytes_eq a.now b.now }
+{
+    a == b
+}
+
 /// Whether a function of this name may have this type: one of the library has its own.
+#[tactic(auto, using(crate::proofs::NameLaws::puts_named, crate::proofs::NameLaws::exits_named, crate::proofs::NameLaws::gets_named, crate::proofs::NameLaws::any_named))]
 pub(crate) fn may_be_named(tables: &Tables<'_>, name: &[u8], ty: TyId) -> bool
     ensures { result ≡ named.may_be_named name.now (type_of tables.now ty) }
 {
-    if name == b"putchar".as_slice() {
-        return puts(tables, ty);
+    if is_same(name, b"putchar") {
+        puts(tables, ty)
+    } else if is_same(name, b"exit") {
+        exits(tables, ty)
+    } else if is_same(name, b"getchar") {
+        gets(tables, ty)
+    } else {
+        true
     }
-    if name == b"exit".as_slice() {
-        return exits(tables, ty);
-    }
-    if name == b"getchar".as_slice() {
-        return gets(tables, ty);
-    }
-    true
 }

@@ -1,6 +1,6 @@
 //! What an initialiser sets.
 
-ghost use Rattle.std.specs.Prelude.{◌≡◌, ◌∷◌, bytes_eq, IfOk, OnOk};
+ghost use Rattle.std.specs.Prelude.{◌≡◌, ◌∷◌, IfOk, OnOk};
 ghost use Rattle.cf_core.specs.FromTypes.{Tables as TablesOf};
 ghost use Rattle.cf_core.specs.Types.{Name as NameOf};
 ghost use Rattle.cf_lower.specs.Constants as definition;
@@ -12,6 +12,7 @@ ghost use Rattle.cf_plain.specs.Plain as plain;
 ghost use Rattle.cf_lowerable_starts.specs.Telling.{detail_in, knows, part_in, parts_in, tells};
 
 use crate::details::{Detail, left_of};
+use crate::functions::is_same;
 use crate::parts::{Part, is_clear_of};
 use crate::state::State;
 use crate::types::{bytes_at, is_void, target_text};
@@ -19,7 +20,7 @@ use crate::values::fits_scalar;
 use cf_base::Memory;
 use cf_lower_constants::{Fact, Site, Target, target_scalar};
 use cf_lower_types::Tables;
-use cf_lowerable_known::known_at;
+use cf_lowerable_known::{both, known_at};
 use cf_plain::Action;
 
 /// Whether it is a part of the object of this name, and no end of an array.
@@ -27,7 +28,7 @@ fn is_own(name: &[u8], fact: &Fact, of: &[u8], detail: Detail) -> bool
     ensures { (tables : TablesOf) (t : TargetOf) → result ≡ alike.is_own name.now (fact_in tables fact.now t of.now) (detail_in tables detail) }
 {
     match fact {
-        Fact::Place(_) => of == name && left_of(detail) > 0,
+        Fact::Place(_) => both(is_same(of, name), left_of(detail) > 0),
         Fact::Nothing | Fact::Number(_) | Fact::Null | Fact::Function => false,
     }
 }
@@ -52,13 +53,6 @@ fn fits_first(
         }
         Fact::Nothing | Fact::Number(_) | Fact::Null | Fact::Function => Ok(false),
     }
-}
-
-/// Whether two names are the same.
-fn is_same(a: &[u8], b: &[u8]) -> bool
-    ensures { result ≡ bytes_eq a.now b.now }
-{
-    a == b
 }
 
 /// Whether nothing was set before of an object of this type, so many bytes behind the start of the named one.
