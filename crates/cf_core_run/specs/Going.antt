@@ -174,6 +174,10 @@ module _ (T : Tables) (p : Program) where
   abbrev pub go_stored : ℕ → Goal → List ℕ → Value → Act Value
   go_stored k q around v = settle [] (goal_place q) v >>= (λ u. closed k (reverse around) Built)
 
+  -- an initialiser of a place, as a full expression of its own, and then this
+  abbrev pub initialised : {A : Type 0} → ℕ → Core → Place → Act A → Act A
+  initialised k e q next = full k (settled [] q (valued k e (Some q))) >> next
+
   -- a temporary of the full expression has its value, or one that lives as long as a local
   abbrev pub go_temporary : ℕ → ℕ → Value → Act Value
   go_temporary k o v = settle [] (root o) v >>= (λ u. frame_changed (lists_temporary o) >> gives (At (root o)))

@@ -2,14 +2,12 @@ ghost use Rattle.std.specs.Prelude.{◌≡◌, ◌<◌, ◌^◌, nat_le, [], len
 ghost use Rattle.cf_core.specs.Access.{place_type};
 ghost use Rattle.cf_core.specs.Core as cores;
 ghost use Rattle.cf_core.specs.FromTypes.{Tables};
-ghost use Rattle.cf_core.specs.Objects.{settled};
-ghost use Rattle.cf_core.specs.Run.{◌>>◌};
 ghost use Rattle.cf_run_tree.specs.Tree.{core_of};
 ghost use Rattle.cf_run_tree.specs.declared.program.Program.{Program};
 ghost use Rattle.cf_core_place.specs.Routes.{goal_place, row_place};
 ghost use Rattle.cf_core_objects.specs.Site.{HasElements};
 ghost use Rattle.cf_core_objects.specs.Store.{state_of};
-ghost use Rattle.cf_core_run.specs.Going.{Comes, from_value, valued, full, cores as row, listing as listed, listing_with, putting_bytes, writing, zeroing};
+ghost use Rattle.cf_core_run.specs.Going.{Comes, from_value, valued, initialised, cores as row, listing as listed, listing_with, putting_bytes, writing, zeroing};
 ghost use Rattle.cf_core_run.specs.Nearer.{weight, weights, whole_array, so_many, elements_left, marks_left, onward};
 
 use crate::mark::{Doing, Listing, Mark, ValueMark};
@@ -128,7 +126,7 @@ impl<'a> Machine<'a> {
         goal: Goal,
         others: Listing<'a>,
     ) -> Result<Step<'a>, Stop>
-        ensures comes { (p : Program) → Comes p (λ T o. from_value T p self.old (full T p self.old.fuel (settled [] (goal_place goal) (valued T p self.old.fuel (core_of T p e.now) (Some (goal_place goal)))) >> listed T p self.old.fuel others.entry) o) result self.new }
+        ensures comes { (p : Program) → Comes p (λ T o. from_value T p self.old (initialised T p self.old.fuel (core_of T p e.now) (goal_place goal) (listed T p self.old.fuel others.entry)) o) result self.new }
         ensures ticks { self.new.ticks ≡ self.old.ticks }
         ensures within { (p : Program) → onward p result self.new ≤ 3 + weight e.now + elements_left others.entry + marks_left self.old.stack.items }
     {

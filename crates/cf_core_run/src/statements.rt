@@ -1,13 +1,12 @@
 ghost use Rattle.std.specs.Prelude.{◌≡◌, None, Some, true, false, ◌≤◌, ◌+◌};
 ghost use Rattle.cf_core.specs.Calls.{root, turn};
 ghost use Rattle.cf_core.specs.Core as nodes;
-ghost use Rattle.cf_core.specs.Objects.{settled};
-ghost use Rattle.cf_core.specs.Run.{gives, ◌>>◌};
+ghost use Rattle.cf_core.specs.Run.{gives};
 ghost use Rattle.cf_core.specs.Statements.{tests_first};
 ghost use Rattle.cf_run_tree.specs.Tree.{core_of, object_type};
 ghost use Rattle.cf_run_tree.specs.declared.program.Program.{Program};
 ghost use Rattle.cf_core_objects.specs.Then.{◌▷◌};
-ghost use Rattle.cf_core_run.specs.Going.{Comes, from_flow, valued, full, full_by, performed, performed_all, scoped, cores, maybe_core, again, loop_of, first_turn, body_turn, turned, go_test, go_declared, flow_of};
+ghost use Rattle.cf_core_run.specs.Going.{Comes, from_flow, valued, full, full_by, initialised, performed, performed_all, scoped, cores, maybe_core, again, loop_of, first_turn, body_turn, turned, go_test, go_declared, flow_of};
 ghost use Rattle.cf_core_run.specs.Nearer.{weight, weights, maybe_weight, statements_left, turn_left, behind_test, marks_left, onward, one_more, Nearer};
 
 use crate::mark::{Doing, Flow, FlowMark, Mark, Repeated, TestMark, ValueMark};
@@ -149,7 +148,7 @@ impl<'a> Machine<'a> {
 
     /// The initialiser of a local with this object.
     fn initialise(&mut self, object: usize, start: &'a Boxed<Node>) -> Result<Step<'a>, Stop>
-        ensures comes { (p : Program) → Comes p (λ T o. from_flow T p self.old (full T p self.old.fuel (settled [] (root object) (valued T p self.old.fuel (core_of T p start.now) (Some (root object)))) >> go_declared T p self.old.fuel object) o) result self.new }
+        ensures comes { (p : Program) → Comes p (λ T o. from_flow T p self.old (initialised T p self.old.fuel (core_of T p start.now) (root object) (go_declared T p self.old.fuel object)) o) result self.new }
         ensures ticks { self.new.ticks ≡ self.old.ticks }
         ensures within { (p : Program) → onward p result self.new ≤ 3 + weight start.now + marks_left self.old.stack.items }
     {

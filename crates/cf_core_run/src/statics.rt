@@ -4,15 +4,14 @@ ghost use Rattle.cf_core.specs.Calls.{root};
 ghost use Rattle.cf_core.specs.Core as cores;
 ghost use Rattle.cf_core.specs.FromTypes.{Tables};
 ghost use Rattle.cf_core.specs.Joined as files;
-ghost use Rattle.cf_core.specs.Objects.{static_number, settled};
+ghost use Rattle.cf_core.specs.Objects.{static_number};
 ghost use Rattle.cf_core.specs.Places as places;
 ghost use Rattle.cf_core.specs.Program.{first_state};
-ghost use Rattle.cf_core.specs.Run.{◌>>◌};
 ghost use Rattle.cf_core.specs.Store.{Code};
 ghost use Rattle.cf_run_tree.specs.Tree.{core_of, object_type, program_of, static_of, static_type};
 ghost use Rattle.cf_run_tree.specs.declared.shape.ObjectType.{ObjectType as Declared};
 ghost use Rattle.cf_run_tree.specs.declared.program.Program.{Program};
-ghost use Rattle.cf_core_run.specs.Going.{Comes, from_value, valued, full, called, setting, setting_with, reaching};
+ghost use Rattle.cf_core_run.specs.Going.{Comes, from_value, valued, initialised, called, setting, setting_with, reaching};
 ghost use Rattle.cf_core_run.specs.Nearer.{weight, statics_left, marks_left, onward};
 
 use crate::mark::{Calling, Doing, ValueMark};
@@ -188,7 +187,7 @@ impl<'a> Machine<'a> {
         number: usize,
         rest: &'a [RunStatic],
     ) -> Result<Step<'a>, Stop>
-        ensures comes { (p : Program) → Comes p (λ T o. from_value T p self.old (full T p self.old.fuel (settled [] (root number) (valued T p self.old.fuel (core_of T p start.now) (Some (root number)))) >> setting T p self.old.fuel rest.now) o) result self.new }
+        ensures comes { (p : Program) → Comes p (λ T o. from_value T p self.old (initialised T p self.old.fuel (core_of T p start.now) (root number) (setting T p self.old.fuel rest.now)) o) result self.new }
         ensures ticks { self.new.ticks ≡ self.old.ticks }
         ensures within { (p : Program) → onward p result self.new ≤ 3 + weight start.now + statics_left rest.now + marks_left self.old.stack.items }
     {

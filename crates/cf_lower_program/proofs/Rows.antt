@@ -290,9 +290,12 @@ function-passes = refl
 other-function-refused : start_alike (static_of (codes "p") (pointer f_type) (set 1 (function (codes "g__Fv") (no_parameters int)) ∷ act (first 0 1) ∷ [])) ≡ false
 other-function-refused = refl
 
--- char s[]="a"; and the same of unsigned char
+-- char s[]="a"; the same of unsigned char, and bytes in an array of no characters
 bytes-pass : start_alike (static_of (codes "s") (array (integer Char) 2) (act (bytes 0 (97 ∷ 0 ∷ [])) ∷ [])) ≡ true
 bytes-pass = refl
 
-unsigned-bytes-refused : start_alike (static_of (codes "s") (array (integer UChar) 2) (act (bytes 0 (97 ∷ 0 ∷ [])) ∷ [])) ≡ false
-unsigned-bytes-refused = refl
+unsigned-bytes-pass : start_alike (static_of (codes "s") (array (integer UChar) 2) (act (bytes 0 (97 ∷ 0 ∷ [])) ∷ [])) ≡ true
+unsigned-bytes-pass = refl
+
+other-bytes-refused : start_alike (static_of (codes "s") (array (integer UInt) 2) (act (bytes 0 (97 ∷ 0 ∷ [])) ∷ [])) ≡ false
+other-bytes-refused = refl

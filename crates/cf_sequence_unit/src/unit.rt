@@ -31,7 +31,7 @@ fn sequenced(alloc: Global, unit: CoreUnit) -> Result<PlainUnit, Memory>
 /// The plain statements of a file, which have the meaning of its core: its types and classes are handed on, each of its functions is that of
 /// `cf_sequence`'s definition, and each has the bound of its frame.
 ///
-/// What is not built is refused by the byte place of its first construct: classes, static references, static objects whose initialisers are not constant.
+/// What is not built is refused by the byte place of its first construct: classes, and static objects whose initialisers are not constant.
 pub fn sequence(alloc: Global, unit: CoreUnit) -> Result<PlainUnit, SequenceFault>
     ensures value { Gives unit result }
     ensures meaning { IfOk result (λ made. (input : List ℕ) (heap depth n : ℕ) (x : Outcome)
