@@ -1,5 +1,5 @@
 -- What stands in a type by its number, by what the table has there.
-use Rattle.std.proofs.Common.{◌≡◌, ⊥, ℕ, true, false, List, [], ◌∷◌, map, Option, Some, None, slice_get, refl, sym}
+use Rattle.std.proofs.Common.{◌≡◌, ℕ, true, false, List, [], ◌∷◌, map, Option, Some, None, slice_get, refl, sym}
 use Rattle.cf_types.specs.declared.ty.Fun.{Fun}
 use Rattle.cf_types.specs.declared.ty.Ty.{Ty}
 use Rattle.cf_types.specs.declared.ty.Ty.TheVariants as ty

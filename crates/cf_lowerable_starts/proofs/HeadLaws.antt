@@ -1,28 +1,33 @@
 -- Types of functions of the library, by the forms of types.
-use Rattle.std.proofs.Common.{◌≡◌, ⊥, ℕ, ◌==◌, Bool, true, false, ◌&&◌, List, [], ◌∷◌, length, map, Option, Some, None, slice_get, refl, sym, ap, ◌∙◌}
+use Rattle.std.proofs.Common.{◌≡◌, ℕ, suc, ◌==◌, Bool, true, false, ◌&&◌, List, [], ◌∷◌, length, map, Option, Some, None, slice_get, refl, sym, ap, ◌∙◌, arith}
+use Rattle.std.proofs.lemmas.Bool.Decides.{nat_tests}
 use Rattle.cf_base.specs.declared.kind.Kind.TheVariants.{Char, SChar, UChar, Short, UShort, Int, UInt, Long, ULong}
 use Rattle.cf_types.specs.declared.ty.Fun.{Fun}
 use Rattle.cf_core.specs.FromTypes.{Tables, type_of, fun_type, taking}
-use Rattle.cf_core.specs.Types.{SourceType, void, integer, takes, gives, without_const, type_eq}
+use Rattle.cf_core.specs.Types.{SourceType, integer, takes, gives, without_const, type_eq}
 use Rattle.cf_lower_types.specs.Bare.{bare, form_type}
 use Rattle.cf_lower_types.specs.declared.form.Form.{Form}
 use Rattle.cf_lower_types.specs.declared.form.Form.TheVariants as form
 use Rattle.cf_lowerable_known.proofs.Turns.{and_true}
 use Rattle.cf_lowerable_starts.proofs.Turns.{and_false}
-use Rattle.cf_lowerable_starts.specs.Heads.{is_int, is_void, takes_int, takes_nothing}
+use Rattle.cf_lowerable_starts.specs.Heads.{is_int, takes_int, takes_nothing}
 
 -- a function type, from the last parameter on
 abbrev typed : Tables → Fun → List ℕ → SourceType
 typed tables f ps = without_const (taking (map (type_of tables) ps) (gives (type_of tables f.result) f.is_const))
 
+-- one and more are not none
+none_left : (ps : List ℕ) → (suc (length ps) == 0) ≡ false
+none_left ps = by (suc (length ps) == 0) refl
+  where
+    by : (b : Bool) → (suc (length ps) == 0) ≡ b → b ≡ false
+    by true e = absurd (grind (arith, nat_tests))
+    by false e = refl
+
 module _ (tables : Tables) where
   no_int : (f : Fun) (ps : List ℕ) → false ≡ type_eq (integer Int) (typed tables f ps)
   no_int f [] = refl
   no_int f (p ∷ ps) = refl
-
-  no_void : (f : Fun) (ps : List ℕ) → false ≡ type_eq void (typed tables f ps)
-  no_void f [] = refl
-  no_void f (p ∷ ps) = refl
 
   int_form : (x : Form) → is_int x ≡ type_eq (integer Int) (form_type tables x)
   int_form form.Void = refl
@@ -48,32 +53,13 @@ module _ (tables : Tables) where
   int_form (form.DataMember c t) = refl
   int_form (form.FunctionMember c f) = refl
 
-  void_form : (x : Form) → is_void x ≡ type_eq void (form_type tables x)
-  void_form form.Void = refl
-  void_form (form.Integer k) = refl
-  void_form (form.Enumeration e) = refl
-  void_form (form.Class c) = refl
-  void_form (form.Pointer t) = refl
-  void_form (form.Reference t) = refl
-  void_form (form.Array t n) = refl
-  void_form (form.Function f) = by (slice_get tables.types.funs f)
-    where
-      by : (o : Option Fun) → false ≡ type_eq void (without_const (fun_type (type_of tables) o))
-      by None = refl
-      by (Some g) = no_void g g.params
-  void_form (form.DataMember c t) = refl
-  void_form (form.FunctionMember c f) = refl
-
   module _ (t : ℕ) (x : Form) (e : bare tables t ≡ form_type tables x) (b : Bool) where
     pub int_at : b ≡ is_int x → b ≡ type_eq (integer Int) (bare tables t)
     int_at is = is ∙ int_form x ∙ sym (ap (type_eq (integer Int)) e)
 
-    pub void_at : b ≡ is_void x → b ≡ type_eq void (bare tables t)
-    void_at is = is ∙ void_form x ∙ sym (ap (type_eq void) e)
-
   pub first_taken : (all rest : List ℕ) (p : ℕ) (b : Bool) → all ≡ p ∷ rest → b ≡ type_eq (integer Int) (bare tables p) → ((length rest == 0) && b) ≡ takes_int tables all
   first_taken all [] p b is int = int ∙ sym (ap (takes_int tables) is)
-  first_taken all (q ∷ qs) p b is int = sym (ap (takes_int tables) is)
+  first_taken all (q ∷ qs) p b is int = ap (λ c. c && b) (none_left qs) ∙ sym (ap (takes_int tables) is)
 
   pub none_first : (all : List ℕ) → all ≡ [] → false ≡ takes_int tables all
   none_first all none = sym (ap (takes_int tables) none)
@@ -142,4 +128,4 @@ module _ (tables : Tables) where
 
 pub empty_taken : (ps : List ℕ) → (length ps == 0) ≡ takes_nothing ps
 empty_taken [] = refl
-empty_taken (p ∷ ps) = refl
+empty_taken (p ∷ ps) = none_left ps

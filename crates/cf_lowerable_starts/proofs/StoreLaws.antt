@@ -33,19 +33,21 @@ module _ (name : Name) (g : Register → Known) (t : Told) (r : Register) (a : B
     pub own_fits : (b : Bool) → a ≡ true → b ≡ fits_first (g r) (g q) (t.facts q) → b ≡ act_alike name g t (plain.first r q)
     own_fits b same fits = fits ∙ sym (ap (λ v. v && fits_first (g r) (g q) (t.facts q)) (sym own ∙ same))
 
-  module _ (bs : List ℕ) where
-    pub no_bytes : a ≡ false → false ≡ act_alike name g t (plain.bytes r bs)
-    no_bytes other = sym (ap (λ b. (b && is_clear name (g r) t.parts) && takes_bytes (g r)) (sym own ∙ other))
+  abbrev filled : Bool
+  filled = (is_own name (g r) (t.facts r) && is_clear name (g r) t.parts) && takes_bytes (g r)
 
-    module _ (c : Bool) (same : a ≡ true) (clear : c ≡ is_clear name (g r) t.parts) where
-      clear_by : (is_clear name (g r) t.parts && takes_bytes (g r)) ≡ act_alike name g t (plain.bytes r bs)
-      clear_by = sym (ap (λ b. (b && is_clear name (g r) t.parts) && takes_bytes (g r)) (sym own ∙ same))
+  pub no_bytes : a ≡ false → false ≡ filled
+  no_bytes other = sym (ap (λ b. (b && is_clear name (g r) t.parts) && takes_bytes (g r)) (sym own ∙ other))
 
-      pub not_clear : c ≡ false → false ≡ act_alike name g t (plain.bytes r bs)
-      not_clear other = sym (ap (λ b. b && takes_bytes (g r)) (sym clear ∙ other)) ∙ clear_by
+  module _ (c : Bool) (same : a ≡ true) (clear : c ≡ is_clear name (g r) t.parts) where
+    clear_by : (is_clear name (g r) t.parts && takes_bytes (g r)) ≡ filled
+    clear_by = sym (ap (λ b. (b && is_clear name (g r) t.parts) && takes_bytes (g r)) (sym own ∙ same))
 
-      pub clear_takes : (b : Bool) → c ≡ true → b ≡ takes_bytes (g r) → b ≡ act_alike name g t (plain.bytes r bs)
-      clear_takes b so takes = takes ∙ sym (ap (λ v. v && takes_bytes (g r)) (sym clear ∙ so)) ∙ clear_by
+    pub not_clear : c ≡ false → false ≡ filled
+    not_clear other = sym (ap (λ b. b && takes_bytes (g r)) (sym clear ∙ other)) ∙ clear_by
+
+    pub clear_takes : (b : Bool) → c ≡ true → b ≡ takes_bytes (g r) → b ≡ filled
+    clear_takes b so takes = takes ∙ sym (ap (λ v. v && takes_bytes (g r)) (sym clear ∙ so)) ∙ clear_by
 
 -- ---- zeros
 

@@ -11,10 +11,6 @@ abbrev pub is_int : Form → Bool
 is_int (form.Integer k) = kind_number k == 5
 is_int x = false
 
-abbrev pub is_void : Form → Bool
-is_void form.Void = true
-is_void x = false
-
 -- an `int` alone
 abbrev pub takes_int : Tables → List ℕ → Bool
 takes_int tables [] = false

@@ -5,6 +5,7 @@ ghost use Rattle.cf_base.specs.declared.kind.Kind.TheVariants as kind;
 ghost use Rattle.cf_core.specs.FromTypes.{type_of};
 ghost use Rattle.cf_core.specs.Types.{gives, integer, kind_number, takes, type_eq, void};
 ghost use Rattle.cf_lower_place.specs.Named as named;
+ghost use Rattle.cf_lower_same.specs.Literals as literals;
 ghost use Rattle.cf_lower_types.specs.Bare.{bare};
 ghost use Rattle.cf_lowerable_starts.specs.Heads as heads;
 
@@ -53,7 +54,7 @@ fn is_nothing(tables: &Tables<'_>, id: TyId) -> bool
 }
 
 fn is_void_form(form: &Form) -> bool
-    ensures { result ≡ heads.is_void form.now }
+    ensures { result ≡ literals.is_void form.now }
 {
     match form {
         Form::Void => true,

@@ -1,6 +1,6 @@
 //! What an initialiser sets.
 
-ghost use Rattle.std.specs.Prelude.{◌≡◌, ◌∷◌, IfOk, OnOk};
+ghost use Rattle.std.specs.Prelude.{◌≡◌, ◌&&◌, ◌∷◌, IfOk, OnOk};
 ghost use Rattle.cf_core.specs.FromTypes.{Tables as TablesOf};
 ghost use Rattle.cf_core.specs.Types.{Name as NameOf};
 ghost use Rattle.cf_lower.specs.Constants as definition;
@@ -151,7 +151,10 @@ fn zeros_alike(x: &Site<'_>, name: &[u8], s: &State, place: u32) -> Result<bool,
 
 /// Whether an array of characters in the named object, of which nothing was set before, gets bytes.
 fn bytes_alike(x: &Site<'_>, name: &[u8], s: &State, place: u32) -> Result<bool, Memory>
-    ensures { (b : NameOf) → IfOk result (λ is. is ≡ alike.act_alike name.now (knows x.now s.now) (tells x.now s.now) (plain.bytes place b)) }
+    ensures { IfOk result (λ is. is
+        ≡ (alike.is_own name.now (knows x.now s.now place) ((tells x.now s.now).facts place)
+        && alike.is_clear name.now (knows x.now s.now place) (tells x.now s.now).parts
+        && alike.takes_bytes (knows x.now s.now place))) }
 {
     let at = s.known.get(x.alloc, place)?;
     let left = s.details.get(place);

@@ -119,7 +119,6 @@ fn bound_of(tables: &Tables<'_>, id: TyId) -> u64
 }
 
 /// The same of the type of a place.
-#[tactic(auto, using(crate::proofs::BoundLaws::bound_exactly))]
 pub(crate) fn target_bound(tables: &Tables<'_>, target: &Target) -> u64
     ensures { result ≡ places.bound (target_in tables.now target.now) }
 {

@@ -1,5 +1,6 @@
-use Rattle.cf_lowerable_starts.proofs.HeadLaws.{void_at}
+use Rattle.std.proofs.Common.{◌∙◌}
+use Rattle.cf_lower_same.proofs.LiteralTypes.{void_first}
 use Rattle.cf_lowerable_starts.proofs.functions.is_nothing.Goals as goal
 
 pub returns : goal.returns
-returns c = void_at c.args.tables.now c.args.id c.form_of.result c.form_of.ensures.is c.is_void_form.result c.is_void_form.ensures
+returns c = c.is_void_form.ensures ∙ void_first c.args.tables.now c.args.id c.form_of.result c.form_of.ensures.is c.form_of.ensures.named
