@@ -1,0 +1,17 @@
+pub mod Advances
+pub mod Alone
+pub mod Copies
+pub mod Counts
+pub mod Files
+pub mod Forms
+pub mod HeadLaws
+pub mod Holding
+pub mod KeptLaws
+pub mod ObjectLaws
+pub mod Opens
+pub mod RowLaws
+pub mod Scans
+pub mod Sides
+pub mod Steps
+pub mod Telling
+pub mod WalkLaws

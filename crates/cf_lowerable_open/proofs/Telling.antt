@@ -1,0 +1,79 @@
+-- What lists of the code's locals tell, where an item is looked at, changed, left out or put in.
+use Rattle.std.proofs.Common.{◌≡◌, ℕ, suc, ◌+◌, zero, ◌<◌, ◌≤◌, ◌==◌, ◌||◌, Bool, true, false, if◌then◌else◌, List, [], ◌∷◌, ◌++◌, length, map, filter, drop, get_or, Option, refl, sym, ap, ◌∙◌, arith, append_assoc, append-nil}
+use Rattle.std.specs.Prelude.{slice_get, slice_set}
+use Rattle.std.specs.List.{list_any}
+use Rattle.std.specs.Option.{option_map}
+use Rattle.std.proofs.lemmas.List.{at_drop_all, length-map, map-append, map-set}
+use Rattle.std.proofs.lemmas.Option.{slice_get-map}
+use Rattle.cf_lower_held.proofs.Forgotten.{drop_item}
+use Rattle.cf_lower_kept.specs.Opened.{Opened}
+use Rattle.cf_lowerable_open.specs.declared.opened.Opened.{Opened as CodeOpened}
+use Rattle.cf_lowerable_open.specs.Lists.{partly}
+use Rattle.cf_lowerable_open.specs.Told.{told, all_told}
+use Rattle.cf_lowerable_open.proofs.Sides.{partly_all, partly_long, partly_more}
+
+pub any_told : (p : Opened → Bool) (xs : List CodeOpened) → list_any p (all_told xs) ≡ list_any (λ x. p (told x)) xs
+any_told p [] = refl
+any_told p (x ∷ xs) = ap (λ b. p (told x) || b) (any_told p xs)
+
+kept_told : (b : Bool) (x : CodeOpened) (xs : List CodeOpened) (ys : List Opened) → all_told xs ≡ ys → all_told (if b then x ∷ xs else xs) ≡ (if b then told x ∷ ys else ys)
+kept_told true x xs ys e = ap (λ l. told x ∷ l) e
+kept_told false x xs ys e = e
+
+filter_told : (p : Opened → Bool) (xs : List CodeOpened) → all_told (filter (λ x. p (told x)) xs) ≡ filter p (all_told xs)
+filter_told p [] = refl
+filter_told p (x ∷ xs) = kept_told (p (told x)) x (filter (λ x. p (told x)) xs) (filter p (all_told xs)) (filter_told p xs)
+
+-- what is left of a list
+pub left_told : (p : Opened → Bool) (xs ys : List CodeOpened) → ys ≡ filter (λ x. p (told x)) xs → all_told ys ≡ filter p (all_told xs)
+left_told p xs ys e = ap all_told e ∙ filter_told p xs
+
+-- an item at the end
+pub end_told : (xs ys : List CodeOpened) (x : CodeOpened) → ys ≡ xs ++ x ∷ [] → all_told ys ≡ all_told xs ++ told x ∷ []
+end_told xs ys x e = ap all_told e ∙ map-append told xs (x ∷ [])
+
+pub item_told : (xs : List CodeOpened) (i : ℕ) → slice_get (all_told xs) i ≡ option_map told (slice_get xs i)
+item_told xs i = slice_get-map told xs i
+
+pub length_told : (xs : List CodeOpened) → length (all_told xs) ≡ length xs
+length_told xs = length-map xs told
+
+-- ---- items that are changed one after another
+
+told_first : (xs : List CodeOpened) (i : ℕ) (x : CodeOpened) → x ≡ get_or xs i x → told x ≡ get_or (all_told xs) i (told x)
+told_first xs i x e = ap told e ∙ at xs i
+  where
+    at : (xs : List CodeOpened) (i : ℕ) → told (get_or xs i x) ≡ get_or (all_told xs) i (told x)
+    at [] i = refl
+    at (y ∷ ys) zero = refl
+    at (y ∷ ys) (suc i) = at ys i
+
+module _ (f : Opened → Opened) (i : ℕ) (xs here : List CodeOpened) (inv : all_told here ≡ partly f i (all_told xs)) where
+  pub change_more : (next : List CodeOpened) (x y : CodeOpened) → i < length here → x ≡ get_or here i x → told y ≡ f (told x) → next ≡ slice_set here i y
+      → all_told next ≡ partly f (i + 1) (all_told xs)
+  change_more next x y within is made set =
+      partly_more f (all_told xs) (all_told here) (all_told next) i (told x) (told y) inv (let lt : i < length (all_told here) = omega (arith, within, length_told here) in lt) (told_first here i x is)
+      made (ap all_told set ∙ map-set told here i y)
+
+  pub change_end : length here ≤ i → all_told here ≡ map f (all_told xs)
+  change_end past =
+      inv ∙ partly_all f (all_told xs) i
+      (let le : length (all_told xs) ≤ i = omega (arith, past, length_told here, ap length inv, partly_long f (all_told xs) i) in le)
+
+-- ---- two lists
+
+pub long_told : (xs ys : List CodeOpened) (b : Bool) → b ≡ (length xs == length ys) → b ≡ (length (all_told xs) == length (all_told ys))
+long_told xs ys b e = e ∙ sym (ap (λ n. n == length ys) (length_told xs)) ∙ sym (ap (λ n. length (all_told xs) == n) (length_told ys))
+
+-- ---- a list that is made item by item
+
+module _ (all made : List CodeOpened) (i : ℕ) (inv : all_told made ++ all_told (drop i all) ≡ all_told all) where
+  pub copied_more : (next : List CodeOpened) (x y : CodeOpened) → i < length all → x ≡ get_or all i x → told y ≡ told x → next ≡ made ++ y ∷ []
+      → all_told next ++ all_told (drop (i + 1) all) ≡ all_told all
+  copied_more next x y within is same grown =
+      ap (λ l. l ++ all_told (drop (i + 1) all)) (end_told made next y grown) ∙ append_assoc (all_told made) (told y ∷ []) (all_told (drop (i + 1) all))
+      ∙ ap (λ z. all_told made ++ z ∷ all_told (drop (i + 1) all)) same
+      ∙ sym (ap (λ (l : List CodeOpened). all_told made ++ all_told l) (drop_item all i x within is)) ∙ inv
+
+  pub copied_end : length all ≤ i → all_told made ≡ all_told all
+  copied_end past = sym (append-nil (all_told made)) ∙ sym (at_drop_all (λ (l : List CodeOpened). all_told made ++ all_told l) all i past) ∙ inv
