@@ -3,7 +3,7 @@ use Rattle.std.proofs.Common.{◌≡◌, ℕ, ◌==◌, Bool, true, false, if◌
 use Rattle.std.specs.Prelude.{bytes_eq}
 use Rattle.std.proofs.lemmas.Bool.Decides.{nat_tests}
 use Rattle.cf_plain.specs.Plain.{Register}
-use Rattle.cf_lower_kept.specs.Opened.{Counts, told_in, same_places}
+use Rattle.cf_lower_kept.specs.Opened.{Counts, no_places, told_in, same_places}
 use Rattle.cf_lowerable_open.specs.declared.located.Place.{Place}
 use Rattle.cf_lowerable_open.specs.Located.{counts_in, shared_at}
 
@@ -63,7 +63,7 @@ pub tells : (r : Register) (p : Place) (ns : Counts) (ps qs : List Place) → p 
 tells r p ns ps qs is e = ap counts_in e ∙ ap (λ (p : Place). counts_in (p ∷ ps)) is
 
 -- nothing is told where no place is listed
-pub none_told : (ps : List Place) → ps ≡ [] → counts_in ps ≡ (λ q. [])
+pub none_told : (ps : List Place) → ps ≡ [] → counts_in ps ≡ no_places
 none_told ps e = ap counts_in e
 
 -- ---- what two lists tell alike

@@ -1,15 +1,20 @@
 -- What lists of the code's locals tell, where an item is looked at, changed, left out or put in.
-use Rattle.std.proofs.Common.{◌≡◌, ℕ, suc, ◌+◌, zero, ◌<◌, ◌≤◌, ◌==◌, ◌||◌, Bool, true, false, if◌then◌else◌, List, [], ◌∷◌, ◌++◌, length, map, filter, drop, get_or, Option, refl, sym, ap, ◌∙◌, arith, append_assoc, append-nil}
+use Rattle.std.proofs.Common.{◌≡◌, ℕ, suc, ◌+◌, zero, ◌<◌, ◌≤◌, ◌==◌, ◌||◌, Bool, true, false, if◌then◌else◌, List, [], ◌∷◌, ◌++◌, length, map, filter, drop, take, get_or, Option, Some, refl, sym, ap, ◌∙◌, arith, append_assoc, append-nil}
 use Rattle.std.specs.Prelude.{slice_get, slice_set}
+use Rattle.std.specs.Global.{Vec}
 use Rattle.std.specs.List.{list_any}
 use Rattle.std.specs.Option.{option_map}
 use Rattle.std.proofs.lemmas.List.{at_drop_all, length-map, map-append, map-set}
 use Rattle.std.proofs.lemmas.Option.{slice_get-map}
 use Rattle.cf_lower_held.proofs.Forgotten.{drop_item}
-use Rattle.cf_lower_kept.specs.Opened.{Opened}
+use Rattle.cf_plain.specs.Plain.{Register}
+use Rattle.cf_lower_kept.specs.Opened.{Opened, Counts, no_places, told_in}
 use Rattle.cf_lowerable_open.specs.declared.opened.Opened.{Opened as CodeOpened}
-use Rattle.cf_lowerable_open.specs.Lists.{partly}
+use Rattle.cf_lowerable_open.specs.declared.located.Place.{Place}
+use Rattle.cf_lowerable_open.specs.Located.{counts_in, last_of}
+use Rattle.cf_lowerable_open.specs.Lists.{begun_with, partly}
 use Rattle.cf_lowerable_open.specs.Told.{told, all_told}
+use Rattle.cf_lowerable_open.proofs.Counts.{none_told}
 use Rattle.cf_lowerable_open.proofs.Sides.{partly_all, partly_long, partly_more}
 
 pub any_told : (p : Opened → Bool) (xs : List CodeOpened) → list_any p (all_told xs) ≡ list_any (λ x. p (told x)) xs
@@ -28,6 +33,17 @@ filter_told p (x ∷ xs) = kept_told (p (told x)) x (filter (λ x. p (told x)) x
 pub left_told : (p : Opened → Bool) (xs ys : List CodeOpened) → ys ≡ filter (λ x. p (told x)) xs → all_told ys ≡ filter p (all_told xs)
 left_told p xs ys e = ap all_told e ∙ filter_told p xs
 
+-- the object in this register, of whose place so much is told
+abbrev Begun : CodeOpened → Option Register → (Register → Counts) → Opened
+Begun x q f = record { local = x.local; begun = q; has_value = false; stands = Some true; flag = x.flag; is_told = false; places = f; last = last_of x.last }
+
+pub begun_told : (x : CodeOpened) (o : Option Register) (r : Register) (ns : Counts) (places : Vec Place) (none : List Place) → o ≡ Some r → none ≡ []
+    → counts_in places.items ≡ told_in r ns (counts_in none)
+    → told record { local = x.local; begun = o; has_value = false; stands = Some true; flag = x.flag; is_told = false; places = places; last = x.last } ≡ begun_with o ns (told x)
+begun_told x o r ns places none is empty e =
+    ap (λ (f : Register → Counts). Begun x o f) (e ∙ ap (told_in r ns) (none_told none empty)) ∙ ap (λ (q : Option Register). Begun x q (told_in r ns no_places)) is
+    ∙ sym (ap (λ (q : Option Register). begun_with q ns (told x)) is)
+
 -- an item at the end
 pub end_told : (xs ys : List CodeOpened) (x : CodeOpened) → ys ≡ xs ++ x ∷ [] → all_told ys ≡ all_told xs ++ told x ∷ []
 end_told xs ys x e = ap all_told e ∙ map-append told xs (x ∷ [])
@@ -40,6 +56,10 @@ length_told xs = length-map xs told
 
 -- ---- items that are changed one after another
 
+front : (xs ys : List CodeOpened) → take (length xs) (xs ++ ys) ≡ xs
+front [] ys = refl
+front (x ∷ xs) ys = ap (λ l. x ∷ l) (front xs ys)
+
 told_first : (xs : List CodeOpened) (i : ℕ) (x : CodeOpened) → x ≡ get_or xs i x → told x ≡ get_or (all_told xs) i (told x)
 told_first xs i x e = ap told e ∙ at xs i
   where
@@ -49,16 +69,22 @@ told_first xs i x e = ap told e ∙ at xs i
     at (y ∷ ys) (suc i) = at ys i
 
 module _ (f : Opened → Opened) (i : ℕ) (xs here : List CodeOpened) (inv : all_told here ≡ partly f i (all_told xs)) where
-  pub change_more : (next : List CodeOpened) (x y : CodeOpened) → i < length here → x ≡ get_or here i x → told y ≡ f (told x) → next ≡ slice_set here i y
+  as_long : length here ≡ length xs
+  as_long = sym (length_told here) ∙ ap length inv ∙ partly_long f (all_told xs) i ∙ length_told xs
+
+  pub change_more : (next : List CodeOpened) (x y : CodeOpened) → i < length xs → x ≡ get_or here i x → told y ≡ f (told x) → next ≡ slice_set here i y
       → all_told next ≡ partly f (i + 1) (all_told xs)
   change_more next x y within is made set =
-      partly_more f (all_told xs) (all_told here) (all_told next) i (told x) (told y) inv (let lt : i < length (all_told here) = omega (arith, within, length_told here) in lt) (told_first here i x is)
-      made (ap all_told set ∙ map-set told here i y)
+      partly_more f (all_told xs) (all_told here) (all_told next) i (told x) (told y) inv (let lt : i < length (all_told here) = omega (arith, within, as_long, length_told here) in lt)
+      (told_first here i x is) made (ap all_told set ∙ map-set told here i y)
 
-  pub change_end : length here ≤ i → all_told here ≡ map f (all_told xs)
-  change_end past =
-      inv ∙ partly_all f (all_told xs) i
-      (let le : length (all_told xs) ≤ i = omega (arith, past, length_told here, ap length inv, partly_long f (all_told xs) i) in le)
+  -- behind the last, where the items are written back
+  pub change_end : (n : ℕ) (items : List CodeOpened) → length xs ≤ i → n ≡ length items → xs ≡ items
+      → all_told (take n (here ++ drop (length here) items)) ≡ map f (all_told items)
+  change_end n items past len same =
+      let long : length here ≡ length items = as_long ∙ ap length same in
+      ap all_told (ap (λ k. take k (here ++ drop (length here) items)) (len ∙ sym long) ∙ front here (drop (length here) items))
+      ∙ inv ∙ partly_all f (all_told xs) i (let le : length (all_told xs) ≤ i = omega (arith, past, length_told xs) in le) ∙ ap (λ (l : List CodeOpened). map f (all_told l)) same
 
 -- ---- two lists
 

@@ -50,6 +50,14 @@ pub fn change_all(all: &mut Vec<Opened>, change: Change)
     }
 }
 
+/// The register gets the place of the first element of what another one has the place of, in one local.
+fn place_first_in(alloc: Global, x: &mut Opened, register: u32, from: u32) -> Result<(), Memory>
+    ensures { OnOk result (told x.new ≡ overwritten register (first_counts ((told x.old).places from)) (told x.old)) }
+{
+    let counts = located::first_counts(alloc, x.counts(from))?;
+    x.place(register, counts)
+}
+
 /// The register gets the place of the first element of what another one has the place of.
 pub fn place_first(
     alloc: Global,
@@ -60,10 +68,24 @@ pub fn place_first(
     ensures { OnOk result (all_told all.new.items ≡ map (λ x. overwritten register (first_counts (x.places from)) x) (all_told all.old.items)) }
 {
     for x in all.iter_mut() {
-        let counts = located::first_counts(alloc, x.counts(from))?;
-        x.place(register, counts)?;
+        place_first_in(alloc, x, register, from)?;
     }
     Ok(())
+}
+
+/// The register gets the place of an element of the array in which another one has a place, by the number in a third, in one local.
+fn place_further_in(
+    alloc: Global,
+    x: &mut Opened,
+    register: u32,
+    from: u32,
+    by: u32,
+) -> Result<(), Memory>
+    ensures { OnOk result (told x.new ≡ overwritten register (further_counts (number_in (told x.old).last by) ((told x.old).places from)) (told x.old)) }
+{
+    let value = located::number_in(x.last, by);
+    let counts = located::further_counts(alloc, value, x.counts(from))?;
+    x.place(register, counts)
 }
 
 /// The register gets the place of an element of the array in which another one has a place, by the number in a third.
@@ -77,9 +99,23 @@ pub fn place_further(
     ensures { OnOk result (all_told all.new.items ≡ map (λ x. overwritten register (further_counts (number_in x.last by) (x.places from)) x) (all_told all.old.items)) }
 {
     for x in all.iter_mut() {
-        let value = located::number_in(x.last, by);
-        let counts = located::further_counts(alloc, value, x.counts(from))?;
-        x.place(register, counts)?;
+        place_further_in(alloc, x, register, from, by)?;
+    }
+    Ok(())
+}
+
+/// The object of this local is there, if it is this one, in this register, of whose place so much is told.
+fn begin_in(
+    alloc: Global,
+    x: &mut Opened,
+    local: u32,
+    register: Option<u32>,
+    counts: &[u32],
+) -> Result<(), Memory>
+    ensures { OnOk result (told x.new ≡ (if is_local local (told x.old) then begun_with register counts.now (told x.old) else told x.old)) }
+{
+    if x.is(local) {
+        x.begin(register, Items::from_slice(alloc, counts)?)?;
     }
     Ok(())
 }
@@ -95,9 +131,7 @@ pub fn begin_all(
     ensures { OnOk result (all_told all.new.items ≡ map (λ x. if is_local local x then begun_with register counts.now x else x) (all_told all.old.items)) }
 {
     for x in all.iter_mut() {
-        if x.is(local) {
-            x.begin(register, Items::from_slice(alloc, counts)?)?;
-        }
+        begin_in(alloc, x, local, register, counts)?;
     }
     Ok(())
 }
