@@ -1,5 +1,5 @@
 -- The entities that a function's name may have.
-use Rattle.std.proofs.Common.{◌≡◌, ℕ, Bool, true, false, ◌||◌, List, Option, None, Some, slice_get, refl, sym, ap, ◌∙◌}
+use Rattle.std.proofs.Common.{◌≡◌, ℕ, Bool, true, false, List, Option, None, Some, slice_get, refl, sym, ap, ◌∙◌}
 use Rattle.cf_elab.specs.Answer.{Made, Refused, need}
 use Rattle.cf_elab.specs.Env.{Env, Entity, functions}
 use Rattle.cf_elab_functions.specs.Shut as shut

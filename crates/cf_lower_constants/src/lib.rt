@@ -17,6 +17,7 @@ mod walk;
 pub use acts::{decided, known_by};
 pub use known::{Fact, Known, Target};
 pub use numbers::{fits, number_of};
+pub use places::target_size;
 pub use registers::Knowns;
 pub use site::Site;
 pub use stores::target_scalar;

@@ -18,7 +18,7 @@ use cf_lower_types::{PlaceType, Tables, element_of, item_of, size_of};
 
 /// The bytes of an object at a place.
 #[tactic(auto, using(crate::proofs::Moves::size_of_bare, crate::proofs::Moves::size_of_characters))]
-fn target_size(tables: &Tables<'_>, target: &Target) -> Result<u64, Memory>
+pub fn target_size(tables: &Tables<'_>, target: &Target) -> Result<u64, Memory>
     ensures { IfOk result (λ n. n ≡ size (classes_of tables.now) (target_in tables.now target.now)) }
 {
     match target {

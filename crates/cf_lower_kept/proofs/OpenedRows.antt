@@ -76,16 +76,16 @@ unfolding f_type main_by called
 other_flag = refl
 
 -- int main(){int a[2]={1,2};return a[1];}, of which the second element may be stored elsewhere
-row : SourceType
-row = array (integer Int) 2
+two_ints : SourceType
+two_ints = array (integer Int) 2
 
 listed_by : Plains → PlainFunction
 listed_by elements = record {
   name = codes "__main";
   role = plain_function;
   type = gives (integer Int) false;
-  locals = row ∷ [];
-  body = more (set 0 (declare 0 row)) elements;
+  locals = two_ints ∷ [];
+  body = more (set 0 (declare 0 two_ints)) elements;
   is_shared = false;
   is_local = false;
 }
@@ -93,7 +93,7 @@ listed_by elements = record {
 at_end : Plains
 at_end =
     more (set 0 (local 0)) (more (set 0 (decay 0)) (more (act (truth 0)) (more (set 1 (number (pos 1))) (more (set 0 (index 0 1)) (more (set 0 (read 0))
-    (more (act (truth 0)) (more (act (finish row 0)) (more (give (Some 0)) (more (act (finish row 0)) nothing)))))))))
+    (more (act (truth 0)) (more (act (finish two_ints 0)) (more (give (Some 0)) (more (act (finish two_ints 0)) nothing)))))))))
 
 element_at : ℕ → Plains → Plains
 element_at i rest = more (set 1 (decay 0)) (more (set 2 (number (pos i))) (more (set 1 (index 1 2)) rest))
@@ -104,22 +104,22 @@ both_elements i =
     (element_at i (more (set 2 (number (pos 2))) (more (act (first 1 2)) at_end)))))
 
 elements_stand : function_opens (listed_by (both_elements 1)) ≡ true
-unfolding row listed_by at_end element_at both_elements
+unfolding two_ints listed_by at_end element_at both_elements
 elements_stand = refl
 
 no_end_is_stored_at : function_opens (listed_by (both_elements 2)) ≡ false
-unfolding row listed_by at_end element_at both_elements
+unfolding two_ints listed_by at_end element_at both_elements
 no_end_is_stored_at = refl
 
 rest_is_filled : function_opens (listed_by (element_at 0 (more (set 2 (number (pos 1))) (more (act (first 1 2)) (element_at 1 (more (act (zeros 1)) at_end)))))) ≡ true
-unfolding row listed_by at_end element_at
+unfolding two_ints listed_by at_end element_at
 rest_is_filled = refl
 
 -- int a[2]={b&&1,2}; stores behind a branch, and the place stays told
 branched : function_opens (listed_by
     (element_at 0 (more (set 2 (number (pos 1))) (more (set 2 (truth 2)) (more (branch 2 (more (set 2 (number (pos 1))) (more (set 2 (truth 2)) nothing)) nothing)
     (more (act (first 1 2)) (element_at 1 (more (set 2 (number (pos 2))) (more (act (first 1 2)) at_end))))))))) ≡ true
-unfolding row listed_by at_end element_at
+unfolding two_ints listed_by at_end element_at
 branched = refl
 
 -- void f(){char s[2][3]={"ab",{'c'}};}

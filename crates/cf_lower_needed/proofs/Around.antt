@@ -2,7 +2,7 @@
 use Rattle.std.proofs.Common.{◌≡◌, ℕ, suc, ◌+◌, ◌≤◌, ◌<◌, max, Bool, true, List, sym, subst, arith}
 use Rattle.std.specs.Prelude.{map, ℤ, Option, Some, None, is_some}
 use Rattle.cf_plain.specs.Plain.{Register, Plain, Plains, default_label, nothing, more}
-use Rattle.cf_lower.specs.Kept.{unknown, Keeping, sets, all_set, after}
+use Rattle.cf_lower.specs.Kept.{Keeping, sets, all_set, after}
 use Rattle.cf_lower.specs.Functions.{nesting, all_nesting}
 use Rattle.cf_lower_kept.specs.Opened.{Opened, settled, same_open, is_at, Ways}
 use Rattle.cf_lower_kept.specs.Told.{AllJoin, builds_none}

@@ -14,7 +14,7 @@ use Rattle.cf_plain.specs.Acts.{Registers}
 use Rattle.cf_plain_frames.specs.Since.{HasValue}
 use Rattle.cf_lower_kept.specs.Opened.{Opened, open_one, is_over, is_open_one, is_open, is_listed, closed, object_in, rows_of, begun_in, declared_in, declared_among}
 use Rattle.cf_lower_turns.specs.Scene.{Scene}
-use Rattle.cf_lower_bounds.specs.Points.{Stands, Begun, Valued, Part, Parts, moved_route, IsOpen, AllOpen, Open, InFrame}
+use Rattle.cf_lower_bounds.specs.Points.{Stands, Begun, Part, Parts, moved_route, IsOpen, AllOpen, Open, InFrame}
 use Rattle.cf_lower_bounds.proofs.Lists.{neither, open-closed}
 use Rattle.cf_lower_points.proofs.Placed.{GoesOn, parts-again}
 use Rattle.cf_lower_points.proofs.Standing.{Bounded, same-local}

@@ -7,7 +7,6 @@ use Rattle.cf_core.specs.Core.{item}
 use Rattle.cf_core.specs.Places.{Route, Place, inner, is_inside}
 use Rattle.cf_core.specs.Pointers.{element_of, route_of, bound_of, up_to}
 use Rattle.cf_core.specs.Store as source
-use Rattle.cf_core.specs.Store.{is_dead}
 use Rattle.cf_core.specs.Run.{State, Did, ◌>>=◌, ◌>>◌, gives, malformed, need, valid, some_or, not_alive, outside_array}
 use Rattle.cf_core.specs.Access.{place_type, used, name_part}
 use Rattle.cf_core.specs.Scalars.{decayed, indexed}
@@ -71,7 +70,7 @@ module _ (again : Again) (P : Program) (g : Registers) (s : State) (w : World) w
 
     at-number : (a : Place) (k : ℕ) → g p ≡ Some (source.At a) → g q ≡ Some (source.Number (pos k))
         → Given Further (indexed P.classes (source.At a) (source.Number (pos k)) s w)
-    at-number a k e h = by_dead (not (is_dead P.classes (s.object a.object) a.route))
+    at-number a k e h = by_there (not (s.object a.object).is_gone)
       where
         is : (o : ℕ) (π : Route) (j : ℕ) → g p ≡ Some (source.At (record { object = o; route = π })) → g q ≡ Some (source.Number (pos j))
             → source.At (moves a k) ≡ source.At (record { object = o; route = moved_route j π })
@@ -84,12 +83,12 @@ module _ (again : Again) (P : Program) (g : Registers) (s : State) (w : World) w
         by_bound false = record { by = tt }
         by_bound true = record { by = is }
 
-        by_dead : (b : Bool)
+        by_there : (b : Bool)
             → Given Further ((need b not_alive
             >> (up_to (bound_of P.classes (s.object a.object).type (element_of a.route)) (Some ((element_of a.route).index + k))
             >>= (λ (m : ℕ). gives (source.At (record a { route = route_of (element_of a.route) m }))))) s w)
-        by_dead false = record { by = tt }
-        by_dead true = by_bound (nat_le ((element_of a.route).index + k) (bound_of P.classes (s.object a.object).type (element_of a.route)))
+        by_there false = record { by = tt }
+        by_there true = by_bound (nat_le ((element_of a.route).index + k) (bound_of P.classes (s.object a.object).type (element_of a.route)))
 
     -- nothing is told where it is no such number
     no-number : (a : Place) (v : source.Value) → g q ≡ Some v → ((k : ℕ) → v ≡ source.Number (pos k) → ⊥) → (x : Ran (Did source.Value)) → Given Further x

@@ -1,14 +1,14 @@
 -- Where plain statements that are no control lead to: what they make of the frame, and which locals stand behind them.
-use Rattle.std.proofs.Common.{◌≡◌, ℕ, zero, suc, ◌<◌, nat_lt, Bool, true, false, ◌&&◌, ◌||◌, ◌==◌, not, if◌then◌else◌, List, [], ◌∷◌, refl, sym, ◌∙◌, ap, subst, arith, ◌⊎◌, inl, inr}
+use Rattle.std.proofs.Common.{◌≡◌, ℕ, zero, suc, ◌<◌, nat_lt, Bool, true, false, ◌&&◌, ◌||◌, ◌==◌, if◌then◌else◌, List, [], ◌∷◌, refl, sym, ◌∙◌, ap, subst, arith, ◌⊎◌, inl, inr}
 use Rattle.std.specs.Prelude.{ℤ, Option, Some, None, map}
 use Rattle.std.proofs.lemmas.Bool.Decides.{nat_tests}
 use Rattle.cf_base.proofs.Tests.{both}
-use Rattle.cf_base.specs.World.{World, Ran, Went, Stops, and_then}
+use Rattle.cf_base.specs.World.{World, Ran, and_then}
 use Rattle.cf_core.specs.Types.{Name, SourceType}
 use Rattle.cf_core.specs.Places.{is_scalar}
 use Rattle.cf_core.specs.Store as source
 use Rattle.cf_core.specs.Store.{hold}
-use Rattle.cf_core.specs.Run.{State, Did, Gives, Exits, Malformed, Act, onward, ◌>>=◌, ◌>>◌, gives, malformed, valid, some_or, when, declared_object, frame_changed, lists_local, object_changed, gone}
+use Rattle.cf_core.specs.Run.{State, Did, onward, ◌>>=◌, ◌>>◌, gives, malformed, valid, some_or, when, declared_object, frame_changed, lists_local, object_changed, gone}
 use Rattle.cf_core.specs.Access.{place_type, used, place_of, first_value}
 use Rattle.cf_core.specs.Calls.{root, destroy}
 use Rattle.cf_core.specs.Objects.{static_number, settle}
@@ -18,7 +18,7 @@ use Rattle.cf_plain.specs.Plain as plain
 use Rattle.cf_plain.specs.Plain.{Register, Action, Plain, act, set, give}
 use Rattle.cf_plain.specs.Acts.{Registers, doing, held, used_in, acts}
 use Rattle.cf_plain.specs.Running.{Flow, Falls, Breaks, Continues, Returns, Again, calls, keep, does}
-use Rattle.cf_plain_frames.specs.Since.{HasValue, Always}
+use Rattle.cf_plain_frames.specs.Since.{HasValue}
 use Rattle.cf_plain_frames.proofs.Values.{keeps-used_in}
 use Rattle.cf_plain_kept.specs.Kept as told
 use Rattle.cf_lower.specs.Kept.{Keeping}

@@ -1,6 +1,6 @@
 -- What a small function with a local needs is met: the plain statements of `int f(){int a=1; return a;}`, from the point at which it is entered.
 use Rattle.std.proofs.Common.{◌≡◌, ℕ, List, [], ◌∷◌, refl}
-use Rattle.std.specs.Prelude.{pos, Some, None, true, false}
+use Rattle.std.specs.Prelude.{pos, Some}
 use Rattle.cf_base.specs.declared.kind.Kind.TheVariants.{Int}
 use Rattle.cf_core.specs.Types.{integer}
 use Rattle.cf_lower_layout.specs.Sorts.{number}

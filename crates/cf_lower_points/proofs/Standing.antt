@@ -6,13 +6,12 @@ use Rattle.std.proofs.lemmas.Bool.Decides.{nat_tests}
 use Rattle.cf_base.proofs.Tests.{both}
 use Rattle.cf_core.specs.Types.{Name}
 use Rattle.cf_core.specs.Store as source
-use Rattle.cf_core.specs.Store.{Object}
 use Rattle.cf_core.specs.Run.{Frame, State}
 use Rattle.cf_core.specs.Objects.{static_number}
 use Rattle.cf_plain.specs.Plain.{Register}
 use Rattle.cf_plain.specs.Acts.{Registers}
 use Rattle.cf_plain.specs.Running.{keep}
-use Rattle.cf_lower_kept.specs.Opened.{Opened, Counts, has_object, is_local, is_open, is_register, unless_in, overwritten, valued, may_begin, flag_number, tells, told_by, counted, set_in}
+use Rattle.cf_lower_kept.specs.Opened.{Opened, Counts, has_object, is_local, is_register, unless_in, overwritten, valued, may_begin, flag_number, tells, told_by, counted, set_in}
 use Rattle.cf_lower_steps.proofs.Registers.{kept-other}
 use Rattle.cf_lower_turns.specs.Scene.{Scene}
 use Rattle.cf_lower_bounds.specs.Points.{Stands, Begun, Valued, Part, Parts, IsTold, IsOpen, AllOpen, Open, InFrame}

@@ -60,7 +60,7 @@ impl<'a> Tables<'a> {
 
     /// The type of this number, as the table has it; `void` where the table has none.
     #[tactic(auto, using(crate::proofs::Entries::found_in, crate::proofs::Entries::names_in, crate::proofs::Entries::missing_in, crate::proofs::Entries::no_names, crate::proofs::Entries::enum_in))]
-    pub(crate) fn entry(&self, id: TyId) -> Ty
+    pub fn entry(&self, id: TyId) -> Ty
         ensures value { type_of self.now id ≡ type_step self.now (type_of self.now) result }
         ensures named { Names self.now.types.funs id (length self.now.types.funs) result }
         ensures earlier { NamesBelow id result }

@@ -48,7 +48,7 @@ module _ (names : List Name) (x : PlainStatic) where
 
 -- ---- of an initialiser, by what its statements stand in
 
-owner_is : (o : Option Name) → owner_or o ≡ elim o as (λ _. Name) [ None ↦ codes "__sti" | Some f ↦ f ]
+pub owner_is : (o : Option Name) → owner_or o ≡ elim o as (λ _. Name) [ None ↦ codes "__sti" | Some f ↦ f ]
 owner_is None = refl
 owner_is (Some f) = refl
 

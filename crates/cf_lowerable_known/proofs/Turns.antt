@@ -12,11 +12,11 @@ use Rattle.cf_lower_held.proofs.Forgotten.{drop_item}
 use Rattle.cf_lower_program.specs.Starts.{start_known, starts_known}
 use Rattle.cf_lower_types.specs.Bare.{classes_of}
 
-and_grouped : (a b c : Bool) → ((a && b) && c) ≡ (a && (b && c))
+pub and_grouped : (a b c : Bool) → ((a && b) && c) ≡ (a && (b && c))
 and_grouped true b c = refl
 and_grouped false b c = refl
 
-and_true : (a : Bool) → a ≡ (a && true)
+pub and_true : (a : Bool) → a ≡ (a && true)
 and_true true = refl
 and_true false = refl
 

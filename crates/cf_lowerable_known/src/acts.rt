@@ -12,7 +12,7 @@ use cf_lower_constants::{Knowns, Site, known_by};
 use cf_plain::Action;
 
 /// Whether what a register holds is known.
-fn known_at(x: &Site<'_>, known: &Knowns, register: u32) -> Result<bool, Memory>
+pub fn known_at(x: &Site<'_>, known: &Knowns, register: u32) -> Result<bool, Memory>
     ensures { IfOk result (λ is. is ≡ starts.is_known (told_all x.now known.now register)) }
 {
     let held = known.get(x.alloc, register)?;

@@ -10,4 +10,6 @@ mod statics;
 mod values;
 mod walk;
 
-pub use statics::statics_are_known;
+pub use acts::known_at;
+pub use statics::{site, statics_are_known};
+pub use values::{both, is_known};

@@ -16,7 +16,7 @@ use cf_plain::{PlainStatic, PlainUnit};
 use std::alloc::Global;
 
 /// What the statements of an initialiser stand in.
-fn site<'x>(alloc: Global, tables: &'x Tables<'x>, object: &'x PlainStatic) -> Site<'x>
+pub fn site<'x>(alloc: Global, tables: &'x Tables<'x>, object: &'x PlainStatic) -> Site<'x>
     ensures at { result.tables.now ≡ tables.now }
     ensures owner { result.owner.now ≡ owned.owner_or object.now.owner }
 {

@@ -15,14 +15,14 @@ use cf_lower_constants::{Fact, Target, target_scalar};
 use cf_lower_types::{Scalar, Tables};
 
 /// Whether both are so.
-pub(crate) fn both(a: bool, b: bool) -> bool
+pub fn both(a: bool, b: bool) -> bool
     ensures { result ≡ (a && b) }
 {
     a && b
 }
 
 /// Whether it is known at all.
-pub(crate) fn is_known(fact: &Fact) -> bool
+pub fn is_known(fact: &Fact) -> bool
     ensures { (tables : TablesOf) (t : TargetOf) (n : NameOf) → result ≡ starts.is_known (fact_in tables fact.now t n) }
 {
     match fact {

@@ -1,8 +1,8 @@
 -- What makes, fills and ends objects, and calls, leave no object to be destroyed.
-use Rattle.std.proofs.Common.{◌≡◌, ℕ, zero, suc, Bool, true, false, ◌&&◌, not, ◌==◌, nat_le, List, [], ◌∷◌, ◌++◌, length, codes, bytes_eq, refl, ap, sym, ◌∙◌, subst}
+use Rattle.std.proofs.Common.{◌≡◌, ℕ, zero, suc, Bool, true, false, ◌&&◌, not, ◌==◌, List, [], ◌∷◌, ◌++◌, length, codes, bytes_eq, refl, ap, sym, ◌∙◌, subst}
 use Rattle.std.specs.Prelude.{pos, Option, Some, None, find, nat_eq, nat_lt}
 use Rattle.cf_base.specs.Event.{Enter}
-use Rattle.cf_base.specs.World.{World, Ran, Went, Stops, and_then, spend_of, deeper, show, next_of}
+use Rattle.cf_base.specs.World.{World, Went, spend_of, deeper, show, next_of}
 use Rattle.cf_base.specs.declared.kind.Kind.{Kind}
 use Rattle.cf_base.specs.Integers.{convert as converted}
 use Rattle.cf_core.specs.Types.{Name, SourceType, void, integer, enumeration, class, pointer, reference, array, takes, gives as gives_type, data_member, function_member, const, parameters, result}
@@ -10,13 +10,13 @@ use Rattle.cf_core.specs.Classes.{Class, class_named, destructor_in}
 use Rattle.cf_core.specs.Core.{Function, item}
 use Rattle.cf_core.specs.Places.{Place, inner, type_at, is_scalar}
 use Rattle.cf_core.specs.Store.{Value, Nothing, Built, Number, Null, Code, Object, zero_of, hold, hold_all, is_constant_place}
-use Rattle.cf_core.specs.Run.{Literal, State, Did, Gives, Exits, Malformed, Act, onward, ◌>>=◌, ◌>>◌, gives, malformed, changed, state, done, need, valid, some_or, when, tick, for_each_back, for_all, object_changed, gone, with_frame, null_used}
+use Rattle.cf_core.specs.Run.{Literal, State, Gives, Act, ◌>>=◌, ◌>>◌, gives, malformed, changed, state, done, need, valid, some_or, when, tick, for_each_back, for_all, object_changed, gone, with_frame, null_used}
 use Rattle.cf_core.specs.Access.{place_type, used, names_scalar, use_place, write_place, first_value, fill_zeros}
 use Rattle.cf_core.specs.Calls as core
 use Rattle.cf_core.specs.Calls.{Program, root, destroy, by_destructor, has_destructor, function_named, is_library, byte_value, get, put, leave_with, argument, run_library, call_library, frame_of, local_count, returned, enter, enter_found, run_named, name_function}
 use Rattle.cf_core.specs.Objects.{found_literal, literal_object, new_local, settle, write_bytes, run_pointer}
 use Rattle.cf_plain.specs.Acts.{object_of, objects_of, doing}
-use Rattle.cf_plain.specs.Running.{Again, Flow, entered, calls, core_flow}
+use Rattle.cf_plain.specs.Running.{Again, entered, calls}
 use Rattle.cf_plain_finished.specs.Finished.{Always, Keeps, NoneFinished}
 use Rattle.cf_plain_finished.proofs.Acts.{keeps-gives, keeps-malformed, keeps-undefined, keeps-need, keeps-next, keeps-then, keeps-some, keeps-valid, keeps-when, keeps-at}
 use Rattle.cf_plain_finished.proofs.Values.{keeps-used, keeps-names, keeps-use, keeps-function, keeps-object}

@@ -1,12 +1,11 @@
 -- Statements leave no object to be destroyed, by induction on their tree; and functions that are entered do, by the bound of ticks.
-use Rattle.std.proofs.Common.{◌≡◌, ℕ, zero, suc, Bool, true, false, ◌&&◌, ◌||◌, ◌==◌, if◌then◌else◌, List, [], ◌∷◌, bytes_eq, refl, sym, ◌∙◌, ap, subst, arith, inl}
-use Rattle.std.specs.Prelude.{ℤ, int_le, Option, Some, None, slice_get, length, nat_le, not}
-use Rattle.std.proofs.lemmas.Bool.Decides.{nat_tests}
+use Rattle.std.proofs.Common.{◌≡◌, ℕ, zero, suc, Bool, true, false, ◌&&◌, if◌then◌else◌, List, [], ◌∷◌, bytes_eq, refl, sym, ◌∙◌, ap, subst}
+use Rattle.std.specs.Prelude.{ℤ, int_le, Option, Some, None, length, nat_le, not}
 use Rattle.cf_base.specs.World.{World, Went, spend_of}
 use Rattle.cf_base.proofs.Tests.{both}
 use Rattle.cf_core.specs.Types.{Name, is_array, is_class, result as result_type}
 use Rattle.cf_core.specs.Classes.{Class}
-use Rattle.cf_core.specs.Core.{Role, plain_function, Function}
+use Rattle.cf_core.specs.Core.{Role, plain_function}
 use Rattle.cf_core.specs.Places.{Place}
 use Rattle.cf_core.specs.Store.{Value, Nothing, Number, At, Code}
 use Rattle.cf_core.specs.Run.{State, Gives, Act, ◌>>=◌, ◌>>◌, gives, tick, valid, when}
@@ -20,9 +19,9 @@ use Rattle.cf_core.specs.Program.{begins, ends, unbuilds, ended_well}
 use Rattle.cf_plain.specs.Plain as plain
 use Rattle.cf_plain.specs.Plain.{Register, Action, Plain, Plains, act, set, branch, loop, switch, case_label, default_label, leave, continue, give, parts, nothing, more, PlainFunction}
 use Rattle.cf_plain.specs.Acts.{Registers, no_registers, held, objects_of, used_in, place_in, doing, acts}
-use Rattle.cf_plain.specs.Running.{Flow, Falls, Breaks, Continues, Returns, Again, entered, turn, calls, core_flow, keep, falling, turning, leaving, has_case, is_true, does, all, from_case, from_default, plain_named, run_body, run_found, runs}
+use Rattle.cf_plain.specs.Running.{Flow, Falls, Breaks, Continues, Returns, Again, turn, calls, core_flow, keep, falling, turning, leaving, has_case, is_true, does, all, from_case, from_default, plain_named, run_body, run_found, runs}
 use Rattle.cf_plain_frames.specs.Simple.{is_simple, simple, all_simple, is_plain, function_simple, functions_simple}
-use Rattle.cf_plain_finished.specs.Finished.{Always, Keeps, NoneFinished}
+use Rattle.cf_plain_finished.specs.Finished.{Always, Keeps}
 use Rattle.cf_plain_finished.proofs.Acts.{keeps-then, keeps-next, keeps-gives, keeps-malformed, keeps-undefined, keeps-valid, keeps-when, keeps-at}
 use Rattle.cf_plain_finished.proofs.Values.{keeps-number, keeps-true, keeps-truth, keeps-pointed, keeps-converted, keeps-operated, keeps-signed, keeps-changed, keeps-indexed, keeps-decayed, keeps-pointers, keeps-from_void, keeps-read, keeps-followed, keeps-local, keeps-static, keeps-same_type, keeps-function, keeps-held, keeps-used_in, keeps-place_in}
 use Rattle.cf_plain_finished.proofs.Calls.{Q, EntersKept, keeps-write, keeps-zeros, keeps-bytes, keeps-settle, keeps-new, keeps-literal, keeps-finish, keeps-call, keeps-pointer-call, keeps-named}

@@ -186,6 +186,7 @@ module _ (again : calling.Again) (again' : running.Again) (P : Program) where
       → Fills (core.string bytes) p s w
   text-fills p bytes s w true e =
       let t : SourceType = place_type P.classes s p in
+      let k : Kind = character_kind t in
       let s0 : State = with_frame (record s.frame { temporaries = [] }) s in
       let parts = both (is_array t) (nat_le (length bytes) (element_count P.classes t)) e in
       both_fill

@@ -29,7 +29,7 @@ use Rattle.cf_sequence.specs.Built.{is_row, is_value, is_start, is_filling, is_i
 use Rattle.cf_sequence.specs.Made.{added, width, width_all}
 use Rattle.cf_sequence.specs.Expressions.{Full, Destination, destination, elements, repeated, in_turn, part_in, part_type, parts_count, begun, built, settled}
 use Rattle.cf_sequence.specs.Statements.{started}
-use Rattle.cf_sequence.proofs.Following.{on, Gave, gave-as, pull, push, follows-then}
+use Rattle.cf_sequence.proofs.Following.{on, Gave, gave-as, push, follows-then}
 use Rattle.cf_sequence.proofs.Calling.{Bodies, never, or-else}
 use Rattle.cf_sequence.proofs.Kept.{Kept, kept-all, Ready, added-two, keep-same, keep-other}
 use Rattle.cf_sequence.proofs.PlainSteps.{runs_on, set-steps, at-one, at-two}

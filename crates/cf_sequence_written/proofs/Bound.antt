@@ -9,14 +9,13 @@ use Rattle.cf_core.specs.declared.node.Holder.TheVariants as holder
 use Rattle.cf_core.specs.declared.node.PartStart.{PartStart, fold-PartStart}
 use Rattle.cf_core.specs.Types.{Name, parameters}
 use Rattle.cf_core.specs.Classes.{Class}
-use Rattle.cf_core.specs.Core as core
-use Rattle.cf_core.specs.Core.{Core, static_temporary}
+use Rattle.cf_core.specs.Core.{Core}
 use Rattle.cf_core.specs.FromTypes.{Tables, type_of}
 use Rattle.cf_core.specs.View.{Started, core_step, started_step, core_of}
 use Rattle.cf_plain.specs.declared.action.Action.TheVariants as action
 use Rattle.cf_plain.specs.Plain.{more, set as sets, act as acts}
 use Rattle.cf_plain.specs.Plain as plain
-use Rattle.cf_sequence.specs.Built.{is_value, is_bound}
+use Rattle.cf_sequence.specs.Built.{is_bound}
 use Rattle.cf_sequence.specs.Made.{width}
 use Rattle.cf_sequence.specs.Expressions.{Full, value, settled, builds}
 use Rattle.cf_sequence.specs.Statements as definition

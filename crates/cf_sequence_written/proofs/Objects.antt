@@ -19,7 +19,7 @@ use Rattle.cf_core.specs.FromUnit.{static_of}
 use Rattle.cf_core.specs.Numbers as numbers
 use Rattle.cf_core.specs.Numbers.{has_type, are_known}
 use Rattle.cf_plain.specs.declared.action.Action.TheVariants as action
-use Rattle.cf_plain.specs.Plain.{Plains, PlainStatic, act as acts, set as sets, nothing, more}
+use Rattle.cf_plain.specs.Plain.{Plains, PlainStatic, act as acts, nothing, more}
 use Rattle.cf_plain.specs.Plain as plain
 use Rattle.cf_plain.specs.Numbers as plain_numbers
 use Rattle.cf_plain.specs.View as view
@@ -35,7 +35,7 @@ use Rattle.cf_sequence.proofs.OwnNames.{is_own}
 use Rattle.cf_sequence.proofs.StaticObjects.{type_found}
 use Rattle.cf_sequence.proofs.Calling.{never}
 use Rattle.cf_sequence_expr.specs.declared.writing.Writing.{Writing}
-use Rattle.cf_sequence_expr.specs.Writes.{set, act}
+use Rattle.cf_sequence_expr.specs.Writes.{act}
 use Rattle.cf_sequence_expr.specs.Parameters.{parameters_at}
 use Rattle.cf_sequence_expr.specs.Pieces.{Piece, piece}
 use Rattle.cf_sequence_stmt.specs.Bodies.{Initial, does_nothing, fills, lists, gives, is_blank, started, reached, placed}

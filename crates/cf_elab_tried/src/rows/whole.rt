@@ -2,7 +2,7 @@
 //! before it.
 
 /// Local static objects and the temporaries that static references bind count as static objects, and declarations alone as nothing.
-pub const FILES: [(&str, &str); 11] = [
+pub const FILES: [(&str, &str); 13] = [
     ("", "0 functions, 0 objects"),
     (
         "enum Colour{RED,GREEN=5,BLUE};int counts[3];static int total=2;\
@@ -25,6 +25,8 @@ int later=4;int main(){while(later){if(later==2)break;later-=2;}do g();while(0);
     ("char a[2048][2049];", "Size 4194304"),
     ("int main(){char a[4194305];return y;}", "Size 4194304"),
     ("char a[4194305];int x=y;", "Size 4194304"),
+    ("char(*p)[4194305],x=y;", "Size 4194304"),
+    ("char(*f())[4194305]{return y;}", "Size 4194304"),
     ("int x=y;char a[4194305];", "K10@6"),
     ("const char a[4194305];", "K28@11"),
     ("int a;char a[4194305];", "K8@11"),
