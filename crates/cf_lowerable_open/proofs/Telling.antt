@@ -17,9 +17,31 @@ use Rattle.cf_lowerable_open.specs.Told.{told, all_told}
 use Rattle.cf_lowerable_open.proofs.Counts.{none_told}
 use Rattle.cf_lowerable_open.proofs.Sides.{partly_all, partly_long, partly_more}
 
-pub any_told : (p : Opened → Bool) (xs : List CodeOpened) → list_any p (all_told xs) ≡ list_any (λ x. p (told x)) xs
-any_told p [] = refl
-any_told p (x ∷ xs) = ap (λ b. p (told x) || b) (any_told p xs)
+-- ---- whether an item passes a test
+
+or_true : (a b : Bool) → a ≡ true → true ≡ (a || b)
+or_true true b e = refl
+or_true false b e = absurd (cc)
+
+or_false : (a b : Bool) → a ≡ false → b ≡ (a || b)
+or_false true b e = absurd (cc)
+or_false false b e = refl
+
+module _ (p : Opened → Bool) (all : List CodeOpened) (i : ℕ) (whole : Bool) (inv : list_any p (all_told (drop i all)) ≡ whole) where
+  module _ (x : CodeOpened) (within : i < length all) (is : x ≡ get_or all i x) (b : Bool) (test : b ≡ p (told x)) where
+    first_left : list_any p (all_told (drop i all)) ≡ (p (told x) || list_any p (all_told (drop (i + 1) all)))
+    first_left = ap (λ (l : List CodeOpened). list_any p (all_told l)) (drop_item all i x within is)
+
+    pub any_found : b ≡ true → true ≡ whole
+    any_found so = or_true (p (told x)) (list_any p (all_told (drop (i + 1) all))) (sym test ∙ so) ∙ sym first_left ∙ inv
+
+    pub any_past : b ≡ false → list_any p (all_told (drop (i + 1) all)) ≡ whole
+    any_past so = or_false (p (told x)) (list_any p (all_told (drop (i + 1) all))) (sym test ∙ so) ∙ sym first_left ∙ inv
+
+  pub any_none : length all ≤ i → false ≡ whole
+  any_none past = sym (at_drop_all (λ (l : List CodeOpened). list_any p (all_told l)) all i past) ∙ inv
+
+-- ---- items that are left
 
 kept_told : (b : Bool) (x : CodeOpened) (xs : List CodeOpened) (ys : List Opened) → all_told xs ≡ ys → all_told (if b then x ∷ xs else xs) ≡ (if b then told x ∷ ys else ys)
 kept_told true x xs ys e = ap (λ l. told x ∷ l) e
@@ -72,11 +94,11 @@ module _ (f : Opened → Opened) (i : ℕ) (xs here : List CodeOpened) (inv : al
   as_long : length here ≡ length xs
   as_long = sym (length_told here) ∙ ap length inv ∙ partly_long f (all_told xs) i ∙ length_told xs
 
-  pub change_more : (next : List CodeOpened) (x y : CodeOpened) → i < length xs → x ≡ get_or here i x → told y ≡ f (told x) → next ≡ slice_set here i y
+  pub change_more : (next : List CodeOpened) (x y : CodeOpened) → i < length xs → x ≡ get_or here i x → told y ≡ f (told (get_or here i x)) → next ≡ slice_set here i y
       → all_told next ≡ partly f (i + 1) (all_told xs)
   change_more next x y within is made set =
       partly_more f (all_told xs) (all_told here) (all_told next) i (told x) (told y) inv (let lt : i < length (all_told here) = omega (arith, within, as_long, length_told here) in lt)
-      (told_first here i x is) made (ap all_told set ∙ map-set told here i y)
+      (told_first here i x is) (made ∙ sym (ap (λ z. f (told z)) is)) (ap all_told set ∙ map-set told here i y)
 
   -- behind the last, where the items are written back
   pub change_end : (n : ℕ) (items : List CodeOpened) → length xs ≤ i → n ≡ length items → xs ≡ items

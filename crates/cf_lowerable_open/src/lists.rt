@@ -20,28 +20,48 @@ use std::alloc::Global;
 pub fn is_open(local: u32, all: &[Opened]) -> bool
     ensures { result ≡ spec.is_open local (all_told all.now) }
 {
-    all.iter().any(|x| x.is_open(local))
+    for x in all {
+        if x.is_open(local) {
+            return true;
+        }
+    }
+    false
 }
 
 /// Whether anything is told of this local.
 pub fn is_listed(local: u32, all: &[Opened]) -> bool
     ensures { result ≡ spec.is_listed local (all_told all.now) }
 {
-    all.iter().any(|x| x.is(local))
+    for x in all {
+        if x.is(local) {
+            return true;
+        }
+    }
+    false
 }
 
 /// Whether this local may get its first value in this register.
 pub fn may_begin(local: u32, register: u32, all: &[Opened]) -> bool
     ensures { result ≡ spec.may_begin local register (all_told all.now) }
 {
-    all.iter().any(|x| x.may_begin(local, register))
+    for x in all {
+        if x.may_begin(local, register) {
+            return true;
+        }
+    }
+    false
 }
 
 /// Whether this local has its value.
 fn has_its_value(all: &[Opened], local: u32) -> bool
     ensures { result ≡ spec.has_its_value (all_told all.now) local }
 {
-    all.iter().any(|x| x.has_its_value(local))
+    for x in all {
+        if x.has_its_value(local) {
+            return true;
+        }
+    }
+    false
 }
 
 /// Whether each of these locals has its value.
@@ -146,7 +166,12 @@ pub fn declare(
 pub fn has_part(register: u32, all: &[Opened]) -> bool
     ensures { result ≡ list_any (λ x. spec.has_object (x.places register)) (all_told all.now) }
 {
-    all.iter().any(|x| has_object(x.counts(register)))
+    for x in all {
+        if has_object(x.counts(register)) {
+            return true;
+        }
+    }
+    false
 }
 
 /// The same locals in a list of their own.
