@@ -81,10 +81,11 @@ pub fn functions_are_open(alloc: Global, unit: &PlainUnit) -> Result<bool, Memor
     ensures walked { IfOk result (λ is. is ≡ spec.functions_open (file_of unit.now)) }
     ensures opened { functions_kept (file_of unit.now) ≡ true → IfOk result (λ is. is ≡ definition.functions_open (file_of unit.now)) }
 {
+    let functions = unit.functions();
     let tables = Tables::new(unit.types(), unit.classes());
     let x = Scene {
         alloc,
         tables: &tables,
     };
-    all_functions_open(&x, unit.functions())
+    all_functions_open(&x, functions)
 }
