@@ -1,8 +1,7 @@
 -- From one place among statements to the next.
-use Rattle.std.proofs.Common.{◌≡◌, ℕ, suc, ◌+◌, ◌<◌, ◌≤◌, Bool, true, false, List, [], ◌∷◌, length, drop, get_or, refl, sym, ap, ◌∙◌, subst, arith, length-drop}
-use Rattle.std.specs.Prelude.{Option}
+use Rattle.std.proofs.Common.{◌≡◌, ℕ, ◌+◌, ◌<◌, ◌≤◌, Bool, true, false, List, [], ◌∷◌, length, drop, get_or, refl, sym, ap, ◌∙◌, subst, arith, length-drop}
 use Rattle.cf_plain.specs.declared.statement.Plain.{Plain as CodePlain}
-use Rattle.cf_plain.specs.Plain.{Register, Plain, Plains, nothing, more}
+use Rattle.cf_plain.specs.Plain.{Plain, Plains, nothing, more}
 use Rattle.cf_lower_kept.specs.Opened.{Opened, Where, falls, away, wrong, Ways}
 use Rattle.cf_lowerable_open.specs.declared.scene.Scene.{Scene}
 use Rattle.cf_lowerable_open.specs.Heads.{as_switch, first_switch, passes, head_of, prepared_by, label_of}

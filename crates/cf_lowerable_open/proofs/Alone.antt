@@ -1,5 +1,5 @@
 -- What statements are, by how many they are.
-use Rattle.std.proofs.Common.{◌≡◌, ℕ, suc, ◌==◌, Bool, true, false, List, [], ◌∷◌, length, get_or, Option, None, refl, sym, ap, ◌∙◌, arith}
+use Rattle.std.proofs.Common.{◌≡◌, ℕ, suc, ◌==◌, Bool, true, false, List, [], ◌∷◌, length, get_or, Option, None, refl, ap, ◌∙◌, arith}
 use Rattle.std.proofs.lemmas.Bool.Decides.{nat_tests}
 use Rattle.cf_plain.specs.declared.statement.Plain.{Plain as CodePlain}
 use Rattle.cf_lowerable_open.specs.declared.scene.Scene.{Scene}

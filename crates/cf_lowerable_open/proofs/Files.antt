@@ -1,10 +1,9 @@
 -- The functions of a file, one after another.
-use Rattle.std.proofs.Common.{◌≡◌, ℕ, suc, ◌+◌, ◌<◌, ◌≤◌, Bool, true, false, ◌&&◌, List, [], ◌∷◌, ◌++◌, length, map, drop, get_or, refl, sym, ap, ◌∙◌, subst, arith, drop-cons, append_assoc, append-nil}
+use Rattle.std.proofs.Common.{◌≡◌, ℕ, suc, ◌+◌, ◌<◌, ◌≤◌, Bool, true, false, ◌&&◌, List, [], ◌∷◌, ◌++◌, length, map, drop, get_or, refl, sym, ap, ◌∙◌, arith, drop-cons, append_assoc, append-nil}
 use Rattle.std.proofs.lemmas.List.{at_drop_all}
-use Rattle.std.specs.Prelude.{None, Result, IfOk}
+use Rattle.std.specs.Prelude.{None}
 use Rattle.std.specs.List.{list_all}
-use Rattle.cf_core.specs.Types.{SourceType, parameters, gives}
-use Rattle.cf_core.specs.FromTypes.{Tables, type_of, taking}
+use Rattle.cf_core.specs.FromTypes.{Tables, type_of}
 use Rattle.cf_lower_held.proofs.Forgotten.{drop_item}
 use Rattle.cf_lower_types.proofs.FunctionLaws.{parameters_taking}
 use Rattle.cf_plain.specs.declared.unit.PlainFn.{PlainFn}

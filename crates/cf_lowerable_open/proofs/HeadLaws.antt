@@ -1,8 +1,8 @@
 -- What definitions of the locals that are open ask of the first of some statements, by its head.
 use Rattle.std.proofs.Common.{◌≡◌, ℕ, Bool, true, false, ◌&&◌, ◌||◌, ◌==◌, if◌then◌else◌, List, ◌∷◌, refl, sym, ap, ◌∙◌}
-use Rattle.std.specs.Prelude.{ℤ, Option, Some, None, int_le}
-use Rattle.cf_plain.specs.Plain.{Register, number, declare, finish, Plain, Plains, act, set, branch, loop, switch, case_label, default_label, leave, continue, give, parts, nothing, more}
-use Rattle.cf_lower_kept.specs.Opened.{Opened, Where, falls, away, wrong, Ways, ended_in, ended_by, or_behind, prepared, awaited, is_the_label, is_listed, open_one, declared, declared_at, stands_before}
+use Rattle.std.specs.Prelude.{ℤ, Option, Some, None}
+use Rattle.cf_plain.specs.Plain.{Register, number, declare, finish, Plain, Plains, act, set, branch, case_label, default_label, nothing, more}
+use Rattle.cf_lower_kept.specs.Opened.{Opened, wrong, Ways, ended_in, ended_by, or_behind, prepared, is_the_label, is_listed, open_one, declared, declared_at, stands_before}
 use Rattle.cf_lowerable_open.specs.declared.heads.Head.{Head}
 use Rattle.cf_lowerable_open.specs.declared.heads.Head.TheVariants as head
 use Rattle.cf_lowerable_open.specs.Heads.{head_of, head_of_branch, ended_alone, is_nothing, is_set, is_end, ends, is_label, has_label, may_stand, heads_of, declared_by, labelled_by, prepared_by, label_of}

@@ -1,14 +1,14 @@
 -- Where the registers of a function hold what is taken, what is open in it does not depend on what they hold but objects.
 use Rattle.std.proofs.Common.{◌≡◌, ℕ, Bool, true, false, ◌&&◌, ◌||◌, ◌==◌, if◌then◌else◌, List, [], ◌∷◌, ◌++◌, map, refl, sym, ap, ◌∙◌, subst}
-use Rattle.std.specs.Prelude.{ℤ, Option, Some, None, is_some}
+use Rattle.std.specs.Prelude.{Option, Some, None, is_some}
 use Rattle.std.specs.List.{list_all}
 use Rattle.cf_base.proofs.Tests.{both}
 use Rattle.cf_core.specs.Types.{SourceType, parameters, result as result_type}
 use Rattle.cf_core.specs.Classes.{Class}
 use Rattle.cf_core.specs.Core.{Role, constructor}
 use Rattle.cf_plain.specs.Plain.{Register, Action, decay, index, declare, first, zeros, bytes, finish, call, pointer_call, number, Plain, Plains, act, set, branch, loop, switch, case_label, default_label, leave, continue, give, parts, nothing, more, PlainFunction, PlainFile}
-use Rattle.cf_plain.specs.Valid.{action_fits, is_label, fits, all_fit, labelled_fit, labels_differ, body_fits, function_fits, static_fits, valid_file}
-use Rattle.cf_plain_kept.specs.Kept.{Kept, a_place, an_object, Keeping, nothing_set, keep, untouched, all_set, integer_in, returned, begun, filled, kept_by, joined, after, after_all, common, function_kept, functions_kept}
+use Rattle.cf_plain.specs.Valid.{is_label, fits, all_fit, labelled_fit, labels_differ, body_fits, function_fits, static_fits, valid_file}
+use Rattle.cf_plain_kept.specs.Kept.{Kept, a_place, an_object, Keeping, nothing_set, keep, untouched, all_set, integer_in, returned, begun, filled, kept_by, joined, after, after_all, function_kept, functions_kept}
 use Rattle.cf_lower_kept.specs.Opened as definition
 use Rattle.cf_lower_kept.specs.Opened.{Opened, settled, Where, falls, away, wrong, Ways, no_label, comes_to, only_if, prepared, where_set, where_unset, keeping_or, stands_before, parameters_open}
 use Rattle.cf_lowerable_open.specs.Heads.{as_switch, first_switch, passes}

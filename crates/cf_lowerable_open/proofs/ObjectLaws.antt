@@ -1,8 +1,7 @@
 -- Which object a register holds where what it holds is told in full: behind actions and where two ways meet.
-use Rattle.std.proofs.Common.{◌≡◌, ℕ, Bool, true, false, ◌&&◌, ◌==◌, if◌then◌else◌, List, refl, sym, ap, ◌∙◌, subst}
-use Rattle.std.specs.Prelude.{Option, Some, None, is_some, slice_get}
-use Rattle.cf_base.proofs.Tests.{both}
-use Rattle.cf_core.specs.Types.{SourceType, void, integer, enumeration, class, pointer, reference, array, takes, gives, data_member, function_member, const, type_eq, without_const, same_but_const, is_void, result as result_type}
+use Rattle.std.proofs.Common.{◌≡◌, ℕ, Bool, true, false, ◌&&◌, ◌==◌, if◌then◌else◌, List, refl, sym, ap, ◌∙◌}
+use Rattle.std.specs.Prelude.{Option, Some, None, slice_get}
+use Rattle.cf_core.specs.Types.{SourceType, void, integer, enumeration, pointer, reference, data_member, function_member, const, type_eq, without_const, same_but_const, result as result_type}
 use Rattle.cf_core.specs.Core.{arithmetic, moved}
 use Rattle.cf_core.specs.Typing.{is_comparison}
 use Rattle.cf_core.specs.declared.operators.PointerOperator.{PointerOperator}
@@ -12,9 +11,9 @@ use Rattle.cf_lower_kept.proofs.Types.{type-self, same-number}
 use Rattle.cf_plain.specs.Plain as plain
 use Rattle.cf_plain.specs.Plain.{Register, Action}
 use Rattle.cf_plain.specs.Valid.{is_of, action_fits}
-use Rattle.cf_plain_kept.specs.Kept.{Kept, no_value, an_integer, a_place, a_member, an_object, Keeping, nothing_set, keep, kept_of, value_of, common, named, read_kept, pointed_kept, decayed, decayed_kept, forth, moved_kept, to_place, to_member, given, converted, from_void_kept, tested, compared, pointer_operated, changed_kept, stored, begun, pointed_call, filled, kept_by, has_kind, right_has, a_truth, of_kind}
+use Rattle.cf_plain_kept.specs.Kept.{Kept, no_value, an_integer, a_place, a_member, an_object, Keeping, kept_of, value_of, common, named, read_kept, pointed_kept, decayed, decayed_kept, forth, moved_kept, to_place, to_member, given, converted, from_void_kept, tested, compared, pointer_operated, stored, begun, pointed_call, filled, kept_by, has_kind, right_has, a_truth, of_kind}
 use Rattle.cf_lower_kept.specs.Opened.{object_kept, same_begun}
-use Rattle.cf_lowerable_open.specs.Objects.{Objects, placed, shared, object_given}
+use Rattle.cf_lowerable_open.specs.Objects.{Objects, shared, object_given}
 
 -- the objects that registers hold
 abbrev pub objects : Keeping → Objects

@@ -1,7 +1,7 @@
 -- What is open behind statements that hold others, by what is open behind those.
-use Rattle.std.proofs.Common.{◌≡◌, ℕ, Bool, true, false, ◌&&◌, List, [], ◌∷◌, map, refl, sym, ap, ◌∙◌}
-use Rattle.cf_plain.specs.Plain.{Register, Plain, Plains, branch, loop, switch, give}
-use Rattle.cf_lower_kept.specs.Opened.{Opened, settled, where_set, where_unset, Where, falls, wrong, joined, comes_to, only_if, Ways}
+use Rattle.std.proofs.Common.{◌≡◌, ℕ, Bool, true, false, ◌&&◌, List, [], ◌∷◌, map, refl, ap, ◌∙◌}
+use Rattle.cf_plain.specs.Plain.{Register, Plains, branch, loop, switch, give}
+use Rattle.cf_lower_kept.specs.Opened.{Opened, settled, where_set, where_unset, Where, falls, joined, comes_to, only_if, Ways}
 use Rattle.cf_lowerable_open.specs.Objects.{Objects, no_objects}
 use Rattle.cf_lowerable_open.specs.Walk.{given, opens, all_open, in_turn, in_step, in_switch, in_passed, in_headed, passed}
 use Rattle.cf_lowerable_open.specs.Heads.{heads_of}

@@ -2,7 +2,7 @@
 use Rattle.std.proofs.Common.{◌≡◌, ℕ, ◌+◌, ◌<◌, ◌≤◌, Bool, true, false, ◌&&◌, ◌||◌, if◌then◌else◌, List, [], ◌∷◌, ◌++◌, length, drop, get_or, refl, sym, ap, ◌∙◌, append_assoc, append-nil}
 use Rattle.std.specs.Prelude.{ℤ, Option, Some, None}
 use Rattle.cf_plain.specs.declared.statement.Plain.{Plain as CodePlain}
-use Rattle.cf_plain.specs.Plain.{Plain, Plains, nothing, more}
+use Rattle.cf_plain.specs.Plain.{Plains, nothing}
 use Rattle.cf_lower_kept.specs.Opened.{ended_by, stands_before}
 use Rattle.cf_lowerable_open.specs.declared.heads.Head.{Head}
 use Rattle.cf_lowerable_open.specs.declared.scene.Scene.{Scene}

@@ -1,8 +1,8 @@
 -- Statements one after another.
-use Rattle.std.proofs.Common.{◌≡◌, ℕ, suc, ◌+◌, ◌<◌, ◌≤◌, ◌||◌, Bool, List, [], ◌∷◌, length, drop, map, get_or, refl, sym, ap, ◌∙◌, arith}
+use Rattle.std.proofs.Common.{◌≡◌, ℕ, ◌+◌, ◌<◌, ◌≤◌, ◌||◌, List, length, drop, get_or, sym, ap, ◌∙◌}
 use Rattle.std.proofs.lemmas.List.{at_drop_all}
 use Rattle.cf_plain.specs.declared.statement.Plain.{Plain as CodePlain}
-use Rattle.cf_plain.specs.Plain.{Plain, Plains, nothing, more}
+use Rattle.cf_plain.specs.Plain.{Plains, nothing, more}
 use Rattle.cf_plain_kept.specs.Kept.{sets, all_set}
 use Rattle.cf_lower_held.proofs.Forgotten.{drop_item}
 use Rattle.cf_lowerable_open.specs.declared.scene.Scene.{Scene}

@@ -1,5 +1,5 @@
 -- What is told of places, by the code's lists of them.
-use Rattle.std.specs.Prelude.{ℕ, ◌==◌, if◌then◌else◌, List, [], ◌∷◌, ℤ, Option, Some, None, bytes_eq}
+use Rattle.std.specs.Prelude.{◌==◌, if◌then◌else◌, List, [], ◌∷◌, ℤ, Option, Some, None, bytes_eq}
 use Rattle.cf_plain.specs.Plain.{Register}
 use Rattle.cf_lower_kept.specs.Opened.{Counts}
 use Rattle.cf_lowerable_open.specs.declared.located.Place.{Place}

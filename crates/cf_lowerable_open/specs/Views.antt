@@ -1,5 +1,5 @@
 -- What the code's values are.
-use Rattle.std.specs.Prelude.{ℕ, List, map, Option, Some, None, ℤ, slice_get}
+use Rattle.std.specs.Prelude.{ℕ, List, Option, Some, None, ℤ, slice_get}
 use Rattle.std.specs.Global.{Vec}
 use Rattle.cf_core.specs.FromTypes.{Tables}
 use Rattle.cf_core.specs.FromClasses.{signature_of}

@@ -1,5 +1,5 @@
 -- Which locals are open at each place of a function, by the objects that its registers hold alone: the definition of `Opened`, without what else they hold.
-use Rattle.std.specs.Prelude.{ℕ, Bool, true, false, ◌&&◌, not, ◌==◌, if◌then◌else◌, List, [], ◌∷◌, map, ℤ, Option, Some, None}
+use Rattle.std.specs.Prelude.{ℕ, Bool, true, ◌&&◌, not, ◌==◌, if◌then◌else◌, List, [], ◌∷◌, map, ℤ, Option, Some, None}
 use Rattle.std.specs.List.{list_all, list_any}
 use Rattle.cf_core.specs.Types.{parameters}
 use Rattle.cf_plain.specs.Plain.{Register, Action, number, decay, index, declare, first, zeros, bytes, finish, call, pointer_call, Plain, Plains, act, set, branch, loop, switch, case_label, default_label, leave, continue, give, parts, nothing, more, PlainFunction, PlainFile}
