@@ -1,11 +1,10 @@
 -- Valid cores of built forms that are malformed, each the smallest that was found. Elaboration makes none of them but the last, whose input is not of bytes.
 use Rattle.std.proofs.Common.{◌≡◌, ℕ, List, [], ◌∷◌, refl}
 use Rattle.std.specs.Prelude.{pos, true, false, None, codes}
-use Rattle.cf_base.specs.declared.kind.Kind.TheVariants.{Int, UChar}
+use Rattle.cf_base.specs.declared.kind.Kind.TheVariants.{Int}
 use Rattle.cf_base.specs.declared.arith.Arith.TheVariants as op
-use Rattle.cf_core.specs.declared.operators.UnaryOperator.TheVariants as sign
 use Rattle.cf_core.specs.Types.{SourceType, void, integer, pointer, reference, array, takes, gives, const}
-use Rattle.cf_core.specs.Core.{Core, plain_function, Function, CoreFile, no_temporary, none, absent, given, number, local, function, read, decay, index, convert, from_void, operate, unary, call, string, bind, zeros, full, declare, give}
+use Rattle.cf_core.specs.Core.{Core, plain_function, Function, CoreFile, no_temporary, none, absent, given, number, local, function, read, decay, index, convert, from_void, operate, call, bind, zeros, full, declare, give}
 use Rattle.cf_core.specs.Joined.{program_of}
 use Rattle.cf_core.specs.Program.{Mean}
 use Rattle.cf_core.specs.Valid.{valid_file}
@@ -49,11 +48,6 @@ references_in_array : IsFind
     (declare 0 (array (reference (integer Int)) 1) zeros ∷ give (given (read (index (decay (local 0)) (number (pos 0))))) ∷ [])
     ∷ named (codes "__main") (gives (integer Int) false) [] (full (read (call (codes "f__Fv") (gives (reference (integer Int)) false) absent none)) ∷ []) ∷ []) []
 references_in_array = record { valid = refl; malformed = refl }
-
--- a byte above 127 in an array of `unsigned char`
-byte_in_unsigned : IsFind (named (codes "__main") (gives (integer Int) false) (array (integer UChar) 2 ∷ [])
-    (declare 0 (array (integer UChar) 2) (string (200 ∷ [])) ∷ full (unary sign.Negate UChar (read (index (decay (local 0)) (number (pos 0))))) ∷ []) ∷ []) []
-byte_in_unsigned = record { valid = refl; malformed = refl }
 
 -- a number that is no int, from an input that is not of bytes
 great_input : IsFind (named (codes "__main") (gives (integer Int) false) [] (give (given (operate op.Add Int (call (codes "getchar") (gives (integer Int) false) absent none) (number (pos 1)))) ∷ []) ∷ []) (4294967296 ∷ [])

@@ -1,0 +1,13 @@
+use Rattle.std.proofs.Common.{rules, tests}
+use Rattle.std.specs.Prelude.{not}
+use Rattle.std.proofs.lemmas.Fn.{filter_same}
+use Rattle.cf_lower_kept.specs.Opened.{is_local}
+use Rattle.cf_lowerable_open.specs.declared.opened.Opened.{Opened as CodeOpened}
+use Rattle.cf_lowerable_open.specs.Told.{told}
+use Rattle.cf_lowerable_open.proofs.Telling.{left_told}
+use Rattle.cf_lowerable_open.proofs.lists.close.Goals as goal
+
+pub returns : goal.returns
+returns c =
+    left_told (λ x. not (is_local c.args.local x)) c.args.all.now.items c.retain.new.self.items
+    (filter_same _ (λ (x : CodeOpened). not (is_local c.args.local (told x))) _ (λ x b q h. search (rules, tests)) _ _ c.retain.ensures.filtered)

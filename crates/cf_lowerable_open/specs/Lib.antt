@@ -1,0 +1,7 @@
+pub mod Heads
+pub mod Lists
+pub mod Located
+pub mod Objects
+pub mod Told
+pub mod Views
+pub mod Walk
