@@ -1,8 +1,6 @@
 pub mod Advances
 pub mod Alone
-pub mod Copies
 pub mod Counts
-pub mod Declares
 pub mod Files
 pub mod Forms
 pub mod HeadLaws

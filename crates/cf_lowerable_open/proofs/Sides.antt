@@ -2,7 +2,7 @@
 use Rattle.std.proofs.Common.{◌≡◌, ℕ, zero, suc, ◌+◌, ◌<◌, ◌≤◌, ◌==◌, ◌&&◌, Bool, true, false, List, [], ◌∷◌, length, map, drop, get_or, refl, sym, ap, ◌∙◌, arith}
 use Rattle.std.specs.Prelude.{slice_set}
 use Rattle.std.proofs.lemmas.Bool.Decides.{nat_tests}
-use Rattle.std.proofs.lemmas.List.{length-set, at_drop_all}
+use Rattle.std.proofs.lemmas.List.{at_drop_all}
 use Rattle.cf_lower_kept.specs.Opened.{Opened, same_locals, same_open, as_open}
 use Rattle.cf_lowerable_open.specs.Lists.{partly, same_at, open_at}
 
@@ -30,9 +30,6 @@ module _ {A : Type 0} (f : A → A) where
       let long : length here ≡ length xs = ap length so ∙ partly_long xs i in
       let within : i < length xs = omega (arith, lt, long) in
       set ∙ ap (λ l. slice_set l i y) so ∙ partly_next xs i x y within (at ∙ ap (λ l. get_or l i x) so) is ∙ ap (λ k. partly f k xs) one
-
-pub set_long : {A : Type 0} (n i : ℕ) (xs zs : List A) (x : A) → length xs ≡ n → zs ≡ slice_set xs i x → length zs ≡ n
-set_long n i xs zs x long set = ap length set ∙ length-set xs i x ∙ long
 
 -- ---- two lists side by side
 

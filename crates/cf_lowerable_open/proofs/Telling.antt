@@ -1,11 +1,9 @@
 -- What lists of the code's locals tell, where an item is looked at, changed, left out or put in.
-use Rattle.std.proofs.Common.{◌≡◌, ℕ, suc, ◌+◌, zero, ◌<◌, ◌≤◌, ◌==◌, ◌||◌, Bool, true, false, if◌then◌else◌, List, [], ◌∷◌, ◌++◌, length, map, filter, drop, take, get_or, Option, Some, refl, sym, ap, ◌∙◌, arith, append_assoc, append-nil}
-use Rattle.std.specs.Prelude.{slice_get, slice_set}
+use Rattle.std.proofs.Common.{◌≡◌, ℕ, suc, ◌+◌, zero, ◌<◌, ◌≤◌, ◌==◌, ◌||◌, Bool, true, false, if◌then◌else◌, List, [], ◌∷◌, ◌++◌, length, map, filter, drop, take, get_or, Option, Some, refl, sym, ap, ◌∙◌, arith}
+use Rattle.std.specs.Prelude.{slice_set}
 use Rattle.std.specs.Global.{Vec}
 use Rattle.std.specs.List.{list_any}
-use Rattle.std.specs.Option.{option_map}
 use Rattle.std.proofs.lemmas.List.{at_drop_all, length-map, map-append, map-set}
-use Rattle.std.proofs.lemmas.Option.{slice_get-map}
 use Rattle.cf_lower_held.proofs.Forgotten.{drop_item}
 use Rattle.cf_plain.specs.Plain.{Register}
 use Rattle.cf_lower_kept.specs.Opened.{Opened, Counts, no_places, told_in}
@@ -70,9 +68,6 @@ begun_told x o r ns places none is empty e =
 pub end_told : (xs ys : List CodeOpened) (x : CodeOpened) → ys ≡ xs ++ x ∷ [] → all_told ys ≡ all_told xs ++ told x ∷ []
 end_told xs ys x e = ap all_told e ∙ map-append told xs (x ∷ [])
 
-pub item_told : (xs : List CodeOpened) (i : ℕ) → slice_get (all_told xs) i ≡ option_map told (slice_get xs i)
-item_told xs i = slice_get-map told xs i
-
 pub length_told : (xs : List CodeOpened) → length (all_told xs) ≡ length xs
 length_told xs = length-map xs told
 
@@ -112,16 +107,3 @@ module _ (f : Opened → Opened) (i : ℕ) (xs here : List CodeOpened) (inv : al
 
 pub long_told : (xs ys : List CodeOpened) (b : Bool) → b ≡ (length xs == length ys) → b ≡ (length (all_told xs) == length (all_told ys))
 long_told xs ys b e = e ∙ sym (ap (λ n. n == length ys) (length_told xs)) ∙ sym (ap (λ n. length (all_told xs) == n) (length_told ys))
-
--- ---- a list that is made item by item
-
-module _ (all made : List CodeOpened) (i : ℕ) (inv : all_told made ++ all_told (drop i all) ≡ all_told all) where
-  pub copied_more : (next : List CodeOpened) (x y : CodeOpened) → i < length all → x ≡ get_or all i x → told y ≡ told x → next ≡ made ++ y ∷ []
-      → all_told next ++ all_told (drop (i + 1) all) ≡ all_told all
-  copied_more next x y within is same grown =
-      ap (λ l. l ++ all_told (drop (i + 1) all)) (end_told made next y grown) ∙ append_assoc (all_told made) (told y ∷ []) (all_told (drop (i + 1) all))
-      ∙ ap (λ z. all_told made ++ z ∷ all_told (drop (i + 1) all)) same
-      ∙ sym (ap (λ (l : List CodeOpened). all_told made ++ all_told l) (drop_item all i x within is)) ∙ inv
-
-  pub copied_end : length all ≤ i → all_told made ≡ all_told all
-  copied_end past = sym (append-nil (all_told made)) ∙ sym (at_drop_all (λ (l : List CodeOpened). all_told made ++ all_told l) all i past) ∙ inv
