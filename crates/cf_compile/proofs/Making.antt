@@ -1,40 +1,37 @@
--- A core passes the tests just where its tests as code do, and its text keeps its meaning.
-use Rattle.std.proofs.Common.{◌≡◌, ◌∙◌, ℕ, Bool, true, false, List, refl, sym, subst, ap}
+-- A core that passes its tests is as lowering asks, and its text keeps its meaning.
+use Rattle.std.proofs.Common.{◌≡◌, ◌∙◌, ℕ, ◌≤◌, Bool, true, false, List, sym, subst, ap}
 use Rattle.cf_base.proofs.Tests.{all_of, both}
 use Rattle.cc_whole.specs.declared.unit.CUnit.{CUnit}
-use Rattle.cc_whole.specs.Plain.{items_of}
-use Rattle.cc_whole.specs.Spellable.{spellable_version}
 use Rattle.cc_whole.specs.Text.{Text}
-use Rattle.cc_whole.specs.ValidUnit.{valid_items, valid_unit}
+use Rattle.cc_whole.specs.ValidUnit.{valid_unit}
 use Rattle.cc_whole_print.specs.Units.{unit_text}
 use Rattle.cc_whole_printed.specs.Written.{written_unit}
 use Rattle.cf_core.specs.Core.{CoreFile}
 use Rattle.cf_core.specs.FromUnit.{Unit as CoreUnit, IsValid, file_of}
-use Rattle.cf_lower.specs.Functions.{lowered_file}
-use Rattle.cf_lower_program.specs.Names.{names_used}
+use Rattle.cf_core.specs.Valid.{valid_file}
+use Rattle.cf_lower_program.specs.Agrees.{UnitsAreValid}
+use Rattle.cf_lower_program.specs.Lowerable.{Lowerable}
 use Rattle.cf_lowerable_core.specs.Looks.{looks, Looked}
-use Rattle.cf_one_file.specs.Covered.{Covered}
-use Rattle.cf_one_file.specs.Means.{OneFileMeans, OneFileRunsAsMeant}
-use Rattle.cf_plain.specs.Plain.{PlainFile}
+use Rattle.cf_one_file.specs.Means.{LowerableFileMeans, LowerableFileRunsAsMeant}
 use Rattle.cf_plain.specs.View as plain
-use Rattle.cf_sequence.proofs.Calling.{never}
+use Rattle.cf_plain_kept.specs.Kept.{functions_kept}
+use Rattle.cf_sequence.specs.Built.{is_built_file}
 use Rattle.cf_sequence.specs.Sequenced.{sequenced_file}
 use Rattle.cf_sequence_lowered.specs.Literals.{core_literals_differ}
+use Rattle.cf_sequence_unit.proofs.Units.{built-file}
 use Rattle.cf_sequence_unit.specs.Sequences.{Sequences}
+use Rattle.cf_translate.proofs.Units.{translated}
 use Rattle.cf_translate.specs.Translated.{Translates}
-use Rattle.cf_compile.specs.Compiles.{greatest, frame_bound}
 use Rattle.cf_compile.specs.Means.{KeepsMeaning}
-use Rattle.cf_compile.specs.Steps.{core_passes, plain_passes, IsWritten}
-use Rattle.cf_compile.specs.Tests.{Tested, Untested}
+use Rattle.cf_compile.specs.Steps.{IsWritten, IsMade}
+use Rattle.cf_compile.specs.Takes.{greatest, frame_bound, most_frame}
+use Rattle.cf_compile.specs.Tests.{core_passes, CoreTested, Lowers}
 use Rattle.cf_compile.specs.declared.compiled.Compiled.{Compiled}
 
 -- the laws that are used
 
-abbrev pub LooksAreTests : Type 0
-LooksAreTests = (file : CoreFile) → looks file ≡ true → Looked file
-
-abbrev pub TestsAreLooks : Type 0
-TestsAreLooks = (file : CoreFile) → Looked file → looks file ≡ true
+abbrev pub RegistersAreKept : Type 0
+RegistersAreKept = (file : CoreFile) → valid_file file ≡ true → is_built_file file ≡ true → functions_kept (sequenced_file file) ≡ true
 
 abbrev pub AreWritten : Type 0
 AreWritten = (u : CUnit) → valid_unit u ≡ true → written_unit u ≡ true
@@ -42,86 +39,55 @@ AreWritten = (u : CUnit) → valid_unit u ≡ true → written_unit u ≡ true
 abbrev pub AreTexts : Type 0
 AreTexts = (u : CUnit) → written_unit u ≡ true → Text (unit_text u) u
 
--- ---- tests
+-- ---- the tests of a core
 
-pub covered : (core : CoreUnit) → Tested core → Untested core → Covered core
-covered core tested left =
-    let l = tested.looked in
-    record {
-      lowers = record {
-        types = l.types;
-        operators = l.operators;
-        names = left.names;
-        statics = left.statics;
-        texts = l.texts;
-        literals = tested.literals;
-        labels = l.labels;
-        counts = l.counts;
-        shared = l.shared;
-        ready = left.ready;
-      };
-      left = record { used = tested.used; starts = left.starts; opened = left.opened; places = left.places };
-    }
+module _ (file : CoreFile) where
+  pub core-tested : (looks file ≡ true → Looked file) → core_passes file ≡ true → CoreTested file
+  core-tested looked passes =
+      let parts = both (looks file) (core_literals_differ file) passes in record { looked = looked parts.0; literals = parts.1 }
 
-pub untested : (core : CoreUnit) → Covered core → Untested core
-untested core c =
-    record {
-      names = c.lowers.names;
-      statics = c.lowers.statics;
-      ready = c.lowers.ready;
-      starts = c.left.starts;
-      opened = c.left.opened;
-      places = c.left.places;
-    }
+  pub core-fails : (Looked file → looks file ≡ true) → core_passes file ≡ false → CoreTested file → ⊥
+  core-fails look fails tested =
+      let passes : core_passes file ≡ true = all_of (looks file) (core_literals_differ file) (look tested.looked) tested.literals in
+      let k : false ≡ true = sym fails ∙ passes in cc
 
-pub core-fails : TestsAreLooks → (core : CoreUnit) → core_passes (file_of core) ≡ false → Tested core → ⊥
-core-fails looked core fails tested =
-    never (sym fails ∙ all_of (looks (file_of core)) (core_literals_differ (file_of core)) (looked (file_of core) tested.looked) tested.literals)
-
--- the unit of a plain file that passes its tests is valid
-valid-unit : (file : PlainFile) (frame : ℕ) (c : Compiled) → IsWritten file frame c → valid_unit c.unit ≡ true
-valid-unit file frame c w =
-    let parts = both (names_used file) (valid_items (lowered_file file)) w.passes in
-    all_of (spellable_version c.unit.version) (valid_items (items_of c.unit.items)) (ap spellable_version w.lowered.version) (ap valid_items w.lowered.items ∙ parts.1)
+-- ---- a core and its plain file
 
 module _ (core : CoreUnit) (made : plain.Unit) (sequenced : Sequences core made) where
-  pub plain-fails : plain_passes (plain.file_of made) ≡ false → Tested core → ⊥
-  plain-fails fails tested =
-      let file = sequenced_file (file_of core) in
-      never (sym fails ∙ ap plain_passes sequenced.sequenced.file ∙ all_of (names_used file) (valid_items (lowered_file file)) tested.used tested.valid)
-
   pub frames-are : greatest made.frames ≡ frame_bound core
   frames-are = ap greatest sequenced.sequenced.frames
 
-  module _ (passes : core_passes (file_of core) ≡ true) (frame : ℕ) (c : Compiled) (w : IsWritten (plain.file_of made) frame c) where
-    tested : LooksAreTests → Tested core
-    tested looked =
-        let first = both (looks (file_of core)) (core_literals_differ (file_of core)) passes in
-        let file = sequenced_file (file_of core) in
-        let second = both (names_used file) (valid_items (lowered_file file)) (ap plain_passes (sym sequenced.sequenced.file) ∙ w.passes) in
-        record { looked = looked (file_of core) first.0; literals = first.1; used = second.0; valid = second.1 }
+  pub registers-kept : RegistersAreKept → IsValid core → functions_kept (plain.file_of made) ≡ true
+  registers-kept law valid = ap functions_kept sequenced.sequenced.file ∙ law (file_of core) valid.file (built-file core sequenced.built)
 
-    spelled : AreWritten → AreTexts → Text c.text.items c.unit
-    spelled written texts = subst (λ t. Text t c.unit) (sym w.printed) (texts c.unit (written c.unit (valid-unit (plain.file_of made) frame c w)))
+  pub lowers : CoreTested (file_of core) → Lowerable (plain.file_of made) → Lowers core
+  lowers tested low = record { tested = tested; lowerable = subst Lowerable sequenced.sequenced.file low }
 
-    translates : AreWritten → AreTexts → Translates core c.unit c.text.items
-    translates written texts = record {
-      made = made;
-      sequenced = sequenced;
-      lowered = w.lowered;
-      printed = w.printed;
-      is_text = λ lowerable. record { valid = valid-unit (plain.file_of made) frame c w; spelled = spelled written texts };
-    }
+  pub plain-lowers : Lowers core → Lowerable (plain.file_of made)
+  plain-lowers l = subst Lowerable (sym sequenced.sequenced.file) l.lowerable
 
-    pub keeps : IsValid core → LooksAreTests → AreWritten → AreTexts → OneFileMeans → OneFileRunsAsMeant → KeepsMeaning core c.unit c.text.items
-    keeps valid looked written texts means runs =
-        let t = translates written texts in
-        let passed = tested looked in
+  -- ---- its text
+
+  module _ (valid : IsValid core) (low : Lowerable (plain.file_of made)) (are-valid : UnitsAreValid) (are-written : AreWritten) (are-texts : AreTexts)
+      (means : LowerableFileMeans) (runs : LowerableFileRunsAsMeant) where
+    pub keeps : (frame : ℕ) (c : Compiled) → IsWritten (plain.file_of made) frame c → KeepsMeaning core c.unit c.text.items
+    keeps frame c w =
+        let text = c.text.items in
+        let t : Translates core c.unit text = translated core valid made sequenced are-valid are-written are-texts c.unit text w.lowered.version w.lowered.items w.printed in
+        let is-text = t.is_text low in
         record {
-          tested = passed;
           translated = t;
-          valid = valid-unit (plain.file_of made) frame c w;
-          spelled = spelled written texts;
-          agrees = λ left. means core c.unit c.text.items valid t (covered core passed left);
-          meant = λ left sound. runs core c.unit c.text.items valid t (covered core passed left) sound;
+          valid = is-text.valid;
+          spelled = is-text.spelled;
+          agrees = means core c.unit text valid t low;
+          meant = runs core c.unit text valid t low;
         }
+
+    pub is-made : CoreTested (file_of core) → (frame : ℕ) → frame ≡ greatest made.frames → frame ≤ most_frame → (c : Compiled)
+        → IsWritten (plain.file_of made) frame c → IsMade core c
+    is-made tested frame is within c w = record {
+      lowers = lowers tested low;
+      keeps = keeps frame c w;
+      frame = w.frame ∙ (is ∙ frames-are);
+      within = subst (λ n. n ≤ most_frame) (sym w.frame) within;
+    }

@@ -1,5 +1,5 @@
 ghost use Rattle.std.specs.Prelude.{◌≡◌};
-ghost use Rattle.cf_compile.specs.Compiles as spec;
+ghost use Rattle.cf_compile.specs.Takes as spec;
 ghost use Rattle.cf_compile.specs.declared.fault.Fault.TheVariants as fault;
 
 use cf_base::{Broken, Limit, Memory, Rule};

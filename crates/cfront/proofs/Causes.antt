@@ -4,11 +4,10 @@ use Rattle.cf_base.specs.Disk.{Disk, SameElsewhere}
 use Rattle.cf_base.specs.Stream.{Stream}
 use Rattle.cc_whole.specs.declared.unit.CProgram.{CProgram}
 use Rattle.cc_whole_run.specs.declared.types.Limits.{Limits}
-use Rattle.cc_whole_run.specs.Run.{Broken, meant}
-use Rattle.cf_streams.specs.Streams.{streams, StillTold, SameCounts}
+use Rattle.cc_whole_run.specs.Run.{meant}
+use Rattle.cf_streams.specs.Streams.{Streams, streams, StillTold, SameCounts}
 use Rattle.cf_core.specs.FromUnit.{Unit as CoreUnit}
-use Rattle.cf_first.specs.First.{First}
-use Rattle.cf_compile.specs.Compiles.{frame_bound}
+use Rattle.cf_compile.specs.Takes.{Takes, frame_bound}
 use Rattle.cf_compile.specs.declared.compiled.Compiled.{Compiled}
 use Rattle.cfront.specs.declared.translating.Program.{Program}
 use Rattle.cfront.specs.declared.outcome.Outcome.{Outcome}
@@ -20,8 +19,8 @@ use Rattle.cfront.specs.Answer.{Causes, Answers, EndsWith, LineStands, LineFaile
 use Rattle.cfront.specs.Cause.{FileCause, read_failed, too_long, limited, refused, write_failed, not_linked, past_static, Stopped, stopped, NotStarted, not_started, StartStops, passes_nodes, passes_frames, Ran, ran, GoCause, Begun, TextLeft, unwritten, text_stands, LeftByMemory}
 use Rattle.cfront.specs.LastLine.{last_line}
 use Rattle.cfront.specs.Outside.{Outside, outside, streams_of, CountsStand, StreamsStand, KeepTelling}
-use Rattle.cfront.specs.Run.{RunsTo, RanTo}
-use Rattle.cfront.specs.Steps.{CompileLeaves, WriteLeaves, DiskStands, DiskTold, StopLeaves, NotWritten, MemoryLeft, MadeOf, StartedLeaves, stays, runs}
+use Rattle.cfront.specs.Run.{RunsTo, RanTo, RunLeaves}
+use Rattle.cfront.specs.Steps.{CompileLeaves, WriteLeaves, DiskStands, DiskTold, StopLeaves, NotWritten, MemoryLeft, MadeOf, StartLeaves, StartedAs, StartedLeaves, BrokenOff, stays, runs}
 use Rattle.cfront.specs.Translated.{WasRead, DiskCountsStand, Made}
 use Rattle.cfront.specs.Words.{text_name}
 
@@ -51,24 +50,30 @@ compile_stops file bytes old new stop.Memory read d at = stands file old new d
 counts_after : (a b c : Disk) → DiskCountsStand a b → DiskCountsStand b c → DiskCountsStand a c
 counts_after a b c first second = record { reads = second.reads ∙ first.reads; writes = second.writes ∙ first.writes }
 
--- the file was read and accepted, and its text not written
+-- the file was read and taken, and its text not written
 pub write_stops : (file bytes text : List ℕ) (source : CoreUnit) (old mid new : Disk) (e : Stop) → WasRead file old bytes → DiskStands old mid
-    → First bytes (Ok source) → WriteLeaves {T = Unit {0}} (text_name file) text mid new (Err e) → StopLeaves file old new e
-write_stops file bytes text source old mid new (stop.Answer a) read d spelled w = write_failed (record {
+    → Takes bytes (Ok source) → WriteLeaves {T = Unit {0}} (text_name file) text mid new (Err e) → StopLeaves file old new e
+write_stops file bytes text source old mid new (stop.Answer a) read d taken w = write_failed (record {
   bytes = bytes;
   read = read;
   source = source;
-  accepted = spelled;
+  taken = taken;
   rises = rw (← d.counts.writes) w.rises;
   answered = w.answered;
   elsewhere = λ told. rw (← d.content) (w.elsewhere (d.told told));
   reads = w.reads ∙ d.counts.reads;
 })
-write_stops file bytes text source old mid new stop.Memory read d spelled w = record {
+write_stops file bytes text source old mid new stop.Memory read d taken w = record {
   text = unwritten (λ told. w.content (d.told told) ∙ d.content);
   elsewhere = λ told other differs. rw (w.content (d.told told), d.content) refl;
   counts = counts_after old mid new d.counts w.counts;
 }
+
+-- a program that may start was run
+pub started_by_run : {M : Type 0} (p : Program) (limits : Limits) (old new : Streams) (result : Result Outcome M) → StartLeaves p limits (Ok tt)
+    → RunLeaves p.program limits old new result → StartedLeaves p limits old new result
+started_by_run p limits old new (Ok outcome) starts left = runs starts left
+started_by_run p limits old new (Err memory) starts left = record { starts = starts; left = left }
 
 -- the causes of an answer of `go`
 pub started_so : (file : List ℕ) (limits : Limits) (files files' : Disk) (input out input' out' err : Stream) (position : Position) (outcome : Outcome) (p : Program)
@@ -99,13 +104,19 @@ module _ (file : List ℕ) (limits : Limits) (old new : Disk) (input out input' 
   all_counts d s = record { reads = d.reads; writes = d.writes; input = s.input; out = s.out; err = refl }
 
   -- memory was wanting in a run
-  pub run_by_memory : (p : Program) → MadeOf file old new p → Broken (meant p.program limits) (streams input out) (streams input' out')
+  pub run_by_memory : (p : Program) → MadeOf file old new p → BrokenOff p limits (streams input out) (streams input' out')
       → LeftByMemory file limits (outside old input out err) (outside new input' out' err)
   run_by_memory p made left = record {
     text = text_stands made.made.unit made.made.stands.translated;
     elsewhere = made.made.stands.elsewhere;
-    counts = all_counts made.made.stands.counts left.counts;
-    streams = inr (record { program = p.program; made = made.made; front = left.front });
+    counts = all_counts made.made.stands.counts left.left.counts;
+    streams = inr (record {
+      program = p.program;
+      made = made.made;
+      starts = left.starts made.made.stands.translated.source made.frame;
+      err = refl;
+      front = left.left.front;
+    });
   }
 
   -- before the run memory was wanting
@@ -117,7 +128,7 @@ module _ (file : List ℕ) (limits : Limits) (old new : Disk) (input out input' 
     streams = inl (record { input = refl; out = refl; err = refl });
   }
 
-fault_is : (outcome other : Outcome) → outcome ≡ other → is_fault outcome ≡ false → is_fault other ≡ false
+pub fault_is : (outcome other : Outcome) → outcome ≡ other → is_fault outcome ≡ false → is_fault other ≡ false
 fault_is outcome other same no_fault = rw (← same) no_fault
 
 with_streams : (old new : Outside) → DiskCountsStand old.files new.files → StreamsStand old new → CountsStand old new

@@ -22,7 +22,7 @@ module _ (file bytes name : List ℕ) (old mid new : Disk) (read : WasRead file 
       bytes = bytes;
       read = read;
       source = is.core;
-      accepted = is.first;
+      taken = is.taken;
       text = made.text.items;
       written = λ told. rw (← named) (written.here (disk.told told));
       keeps = is.keeps;

@@ -13,9 +13,9 @@ use Rattle.cc_whole_linked.specs.Limited.{LinksWithin, refused as not_linked_by,
 use Rattle.cc_whole_linker.specs.Answers.{static_limit}
 use Rattle.cc_whole_run.specs.declared.types.Limits.{Limits}
 use Rattle.cc_whole_run.specs.Run.{Front, meant}
-use Rattle.cf_compile.specs.Compiles.{Refuses, frame_bound}
+use Rattle.cf_compile.specs.Takes.{Takes, frame_bound}
 use Rattle.cf_core.specs.FromUnit.{Unit as CoreUnit}
-use Rattle.cf_first.specs.First.{First, breaks, passes}
+use Rattle.cf_first.specs.First.{breaks, passes}
 use Rattle.cfront.specs.declared.outcome.Outcome.{Outcome}
 use Rattle.cfront.specs.declared.outcome.Outcome.TheVariants as answer
 use Rattle.cfront.specs.declared.position.Position.{Position}
@@ -25,18 +25,18 @@ use Rattle.cfront.specs.Run.{RanTo}
 use Rattle.cfront.specs.Translated.{WasRead, Translated, TextStands, DiskCountsStand, Made, most_bytes}
 use Rattle.cfront.specs.Words.{text_name}
 
--- these bytes break a rule at a place, which stands at this position
+-- these bytes are refused by a rule at a place, which stands at this position
 pub record RefusedAt (bytes : List ℕ) (position : Position) (outcome : Outcome) : Type 0 where
   pub rule : ℕ
   pub at : ℕ
-  pub refused : Refuses bytes (breaks (record { rule = rule; at = at }))
+  pub refused : Takes bytes (Err (breaks (record { rule = rule; at = at })))
   pub stands_at : position ≡ position_of bytes at
   pub answered : outcome ≡ answer.Refused 1 rule at
 
--- these bytes pass a limit
+-- these bytes are refused by a limit
 pub record LimitedBy (bytes : List ℕ) (outcome : Outcome) : Type 0 where
   pub limit : Limit
-  pub passed : Refuses bytes (passes limit)
+  pub passed : Takes bytes (Err (passes limit))
   pub answered : outcome ≡ answer.Limit (Some 1) limit
 
 -- The first file passes a limit. Nothing was written.
@@ -69,18 +69,18 @@ pub record ReadFailed (file : List ℕ) (old new : Disk) (outcome : Outcome) : T
   pub content : new.content ≡ old.content
   pub writes : new.write_faults ≡ old.write_faults
 
--- The file was accepted, and the write of its text failed.
+-- The file was taken, and the write of its text failed.
 pub record WriteFailed (file : List ℕ) (old new : Disk) (outcome : Outcome) : Type 0 where
   pub bytes : List ℕ
   pub read : WasRead file old bytes
   pub source : CoreUnit
-  pub accepted : First bytes (Ok source)
+  pub taken : Takes bytes (Ok source)
   pub rises : Rises (text_name file) old.write_faults new.write_faults
   pub answered : outcome ≡ answer.FileFault
   pub elsewhere : IsTrue old.told → SameElsewhere (text_name file) old.content new.content
   pub reads : new.read_faults ≡ old.read_faults
 
--- The text of the accepted file stands, and its unit alone does not link: this rule of linking is broken, about this name.
+-- The text of the file stands, and its unit alone does not link: this rule of linking is broken, about this name.
 pub record NotLinked (file : List ℕ) (old new : Disk) (outcome : Outcome) : Type 0 where
   pub unit : CUnit
   pub stands : TextStands file old new unit
@@ -88,7 +88,7 @@ pub record NotLinked (file : List ℕ) (old new : Disk) (outcome : Outcome) : Ty
   pub refused : LinksWithin (unit ∷ []) (not_linked_by refusal)
   pub answered : outcome ≡ answer.LinkRefused refusal.rule refusal.name
 
--- The text of the accepted file stands, and the variables of its unit pass the limit.
+-- The text of the file stands, and the variables of its unit pass the limit.
 pub record PastStatic (file : List ℕ) (old new : Disk) (outcome : Outcome) : Type 0 where
   pub unit : CUnit
   pub stands : TextStands file old new unit
@@ -152,9 +152,11 @@ pub data GoCause (file : List ℕ) (limits : Limits) (old new : Outside) (positi
 pub record Begun (file : List ℕ) (limits : Limits) (old new : Outside) : Type 0 where
   pub program : CProgram
   pub made : Made file old.files new.files program
+  pub starts : MayStart program made.stands.translated.source limits
+  pub err : new.err ≡ old.err
   pub front : Front (meant program limits) (streams_of old) (streams_of new)
 
--- no file was written, or the text of the accepted file stands
+-- no file was written, or the text of the file stands
 pub data TextLeft (file : List ℕ) (old new : Disk) : Type 0 where
   unwritten : (IsTrue old.told → new.content ≡ old.content) → TextLeft file old new
   text_stands : (unit : CUnit) → Translated file old new unit → TextLeft file old new

@@ -9,7 +9,8 @@ use Rattle.cc_whole_linker.specs.Answers.{static_limit}
 use Rattle.cc_whole_run.specs.declared.types.Limits.{Limits}
 use Rattle.cc_whole_run.specs.Run.{Broken, meant}
 use Rattle.cf_streams.specs.Streams.{Streams}
-use Rattle.cf_compile.specs.Compiles.{IsCompiled, frame_bound}
+use Rattle.cf_compile.specs.Compiles.{IsCompiled}
+use Rattle.cf_compile.specs.Takes.{frame_bound}
 use Rattle.cf_compile.specs.declared.compiled.Compiled.{Compiled}
 use Rattle.cfront.specs.declared.outcome.Outcome.{Outcome}
 use Rattle.cfront.specs.declared.outcome.Outcome.TheVariants as answer
@@ -117,9 +118,14 @@ pub data StartedAs (p : Program) (limits : Limits) (old new : Streams) (outcome 
   stays : StartLeaves p limits (Err outcome) → new ≡ old → StartedAs p limits old new outcome
   runs : StartLeaves p limits (Ok tt) → RanTo p.program limits old new outcome → StartedAs p limits old new outcome
 
+-- memory was wanting in a run that was begun
+pub record BrokenOff (p : Program) (limits : Limits) (old new : Streams) : Type 0 where
+  pub starts : StartLeaves p limits (Ok tt)
+  pub left : Broken (meant p.program limits) old new
+
 abbrev pub StartedLeaves : {M : Type 0} → Program → Limits → Streams → Streams → Result Outcome M → Type 0
 StartedLeaves p limits old new (Ok outcome) = StartedAs p limits old new outcome
-StartedLeaves p limits old new (Err memory) = Broken (meant p.program limits) old new
+StartedLeaves p limits old new (Err memory) = BrokenOff p limits old new
 
 -- an answer before its last line
 abbrev pub GoLeaves : {M : Type 0} → List ℕ → Limits → Outside → Outside → Result Answer M → Type 0

@@ -5,8 +5,8 @@ use Rattle.cc_whole.specs.declared.unit.CUnit.{CUnit}
 use Rattle.cc_whole.specs.declared.unit.CProgram.{CProgram}
 use Rattle.cc_whole_linked.specs.Limited.{LinksWithin, linked}
 use Rattle.cf_compile.specs.Means.{KeepsMeaning}
+use Rattle.cf_compile.specs.Takes.{Takes}
 use Rattle.cf_core.specs.FromUnit.{Unit as CoreUnit}
-use Rattle.cf_first.specs.First.{First}
 use Rattle.cfront.specs.Words.{text_name}
 
 -- the most bytes of a source file
@@ -18,12 +18,12 @@ pub record WasRead (file : List ℕ) (files : Disk) (bytes : List ℕ) : Type 0 
   pub holds : IsTrue files.told → files.content file ≡ Some bytes
   pub short : length bytes ≤ most_bytes
 
--- The file was read and accepted, and beside it stands a text that keeps its meaning: that of this unit.
+-- The file was read and taken, and beside it stands a text that keeps its meaning: that of this unit.
 pub record Translated (file : List ℕ) (old new : Disk) (unit : CUnit) : Type 0 where
   pub bytes : List ℕ
   pub read : WasRead file old bytes
   pub source : CoreUnit
-  pub accepted : First bytes (Ok source)
+  pub taken : Takes bytes (Ok source)
   pub text : List ℕ
   pub written : IsTrue old.told → new.content (text_name file) ≡ Some text
   pub keeps : KeepsMeaning source unit text

@@ -10,6 +10,7 @@ mod disk_files;
 mod failing_tests;
 mod go;
 mod last_line;
+mod laws;
 mod outcome;
 mod position;
 mod running;
