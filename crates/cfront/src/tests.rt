@@ -5,8 +5,8 @@ ghost use Rattle.std.specs.Prelude.{◌≤◌, ◌^◌};
 use crate::go::go_with;
 use crate::outcome::{Outcome, status};
 use crate::top::{DEFAULT_LIMITS, cfront};
-use cc_run::Limits;
-use cc_tree::Act;
+use cc_whole_memory::Act;
+use cc_whole_run::Limits;
 use cf_base::{Bound, Files, Limit, MemFiles, MemSink, MemSource, Memory, Name, Rule};
 use std::alloc::{AllocError, Global};
 use std::process::Abort;
@@ -187,30 +187,30 @@ fn lexical_faults_come_first(rt: HostRuntime) -> Result<(), Fail> {
 }
 
 #[test]
-fn another_constant_is_outside(rt: HostRuntime) -> Result<(), Fail> {
-    let line = "a.C:1:19: K48 outside the profile\n";
-    let constant = b"int main(){return 1u;}";
-    check_text(&rt, rt.alloc(), constant, refused(48, 18), "", line)
+fn constants_have_their_types(rt: HostRuntime) -> Result<(), Fail> {
+    let want = Outcome::Ended { status: 1 };
+    let constants = b"int main(){return 1u-2u>0;}";
+    check_text(&rt, rt.alloc(), constants, want, "", "cfront: ended 1\n")
 }
 
 #[test]
 fn rules_of_names_are_broken_at_the_name(rt: HostRuntime) -> Result<(), Fail> {
     let second_local = b"int main(){int a=1;\nint a=2;}";
-    let line = "a.C:2:5: K48 outside the profile\n";
-    check_text(&rt, rt.alloc(), second_local, refused(48, 24), "", line)?;
+    let line = "a.C:2:5: K8 (3.1) declared twice\n";
+    check_text(&rt, rt.alloc(), second_local, refused(8, 24), "", line)?;
     let no_argument = b"int f(int a){return a;}int main(){return f();}";
-    let line = "a.C:1:42: K48 outside the profile\n";
-    check_text(&rt, rt.alloc(), no_argument, refused(48, 41), "", line)?;
+    let line = "a.C:1:42: K15 (5.2.2) wrong number of arguments\n";
+    check_text(&rt, rt.alloc(), no_argument, refused(15, 41), "", line)?;
     let second_parameter = b"int f(int a,int a){return a;}int main(){return f(1,2);}";
-    let line = "a.C:1:17: K48 outside the profile\n";
-    check_text(&rt, rt.alloc(), second_parameter, refused(48, 16), "", line)?;
-    let behind_an_unknown_name = b"int f(){return 1;}int main(){return x;}int f(){return 2;}";
-    let line = "a.C:1:44: K48 outside the profile\n";
+    let line = "a.C:1:17: K8 (3.1) declared twice\n";
+    check_text(&rt, rt.alloc(), second_parameter, refused(8, 16), "", line)?;
+    let before_a_second_function = b"int f(){return 1;}int main(){return x;}int f(){return 2;}";
+    let line = "a.C:1:37: K10 (3.2) undeclared name\n";
     check_text(
         &rt,
         rt.alloc(),
-        behind_an_unknown_name,
-        refused(48, 43),
+        before_a_second_function,
+        refused(10, 36),
         "",
         line,
     )
@@ -259,10 +259,35 @@ fn unmatched_bracket_is_not_in_the_grammar(rt: HostRuntime) -> Result<(), Fail> 
 }
 
 #[test]
-fn declaration_of_a_local_in_brackets_is_outside(rt: HostRuntime) -> Result<(), Fail> {
+fn declaration_of_a_local_in_brackets(rt: HostRuntime) -> Result<(), Fail> {
+    let want = Outcome::Ended { status: 5 };
+    let text = b"typedef int T;int main(){T(x);x=5;return x;}";
+    check_text(&rt, rt.alloc(), text, want, "", "cfront: ended 5\n")
+}
+
+#[test]
+fn class_is_outside(rt: HostRuntime) -> Result<(), Fail> {
     let line = "a.C:1:1: K48 outside the profile\n";
-    let text = b"typedef int T;int main(){T(x);return 0;}";
+    let text = b"struct S{int n;};int main(){return 0;}";
     check_text(&rt, rt.alloc(), text, refused(48, 0), "", line)
+}
+
+#[test]
+fn frame_passes_the_limit(rt: HostRuntime) -> Result<(), Fail> {
+    let alloc = rt.alloc();
+    let limit = Limit {
+        bound: Bound::Frame,
+        most: 65_536,
+    };
+    let want = Outcome::Limit {
+        file: Some(1),
+        limit,
+    };
+    let line = "a.C: limit Frame 65536\n";
+    check_text(&rt, alloc, b"int main(){char b[65536];return 7;}", want, "", line)?;
+    let want = Outcome::Frames { product: 8_519_680 };
+    let line = "cfront: frames 8519680\n";
+    check_text(&rt, alloc, b"int main(){char b[8200];return 7;}", want, "", line)
 }
 
 #[test]
@@ -323,14 +348,14 @@ fn overflow_after_output(rt: HostRuntime) -> Result<(), Fail> {
 
 #[test]
 fn value_of_a_function_that_gave_none(rt: HostRuntime) -> Result<(), Fail> {
-    let want = Outcome::Undefined { act: Act::A11 };
+    let want = Outcome::Ended { status: 0 };
     check_text(
         &rt,
         rt.alloc(),
         b"int f(){}int main(){f();return f();}",
         want,
         "",
-        "cfront: undefined act A11\n",
+        "cfront: ended 0\n",
     )
 }
 
