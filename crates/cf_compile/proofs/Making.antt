@@ -1,6 +1,7 @@
 -- A core that passes its tests is as lowering asks, and its text keeps its meaning.
-use Rattle.std.proofs.Common.{◌≡◌, ◌∙◌, ℕ, ◌≤◌, Bool, true, false, List, sym, subst, ap}
+use Rattle.std.proofs.Common.{◌≡◌, ◌∙◌, ◌⊎◌, ℕ, ◌≤◌, ◌<◌, Bool, true, false, List, Result, Ok, Err, IfOk, sym, subst, ap, inl, inr}
 use Rattle.cf_base.proofs.Tests.{all_of, both}
+use Rattle.cf_base.specs.declared.memory.Memory.{Memory}
 use Rattle.cc_whole.specs.declared.unit.CUnit.{CUnit}
 use Rattle.cc_whole.specs.Text.{Text}
 use Rattle.cc_whole.specs.ValidUnit.{valid_unit}
@@ -23,10 +24,12 @@ use Rattle.cf_sequence_unit.specs.Sequences.{Sequences}
 use Rattle.cf_translate.proofs.Units.{translated}
 use Rattle.cf_translate.specs.Translated.{Translates}
 use Rattle.cf_compile.specs.Means.{KeepsMeaning}
-use Rattle.cf_compile.specs.Steps.{IsWritten, IsMade}
+use Rattle.cf_compile.specs.Steps.{IsWritten, Finishes, IsMade, Makes}
 use Rattle.cf_compile.specs.Takes.{greatest, frame_bound, most_frame}
 use Rattle.cf_compile.specs.Tests.{core_passes, CoreTested, Lowers}
 use Rattle.cf_compile.specs.declared.compiled.Compiled.{Compiled}
+use Rattle.cf_compile.specs.declared.fault.Fault.{Fault}
+use Rattle.cf_compile.specs.declared.fault.Fault.TheVariants as fault
 
 -- the laws that are used
 
@@ -83,11 +86,31 @@ module _ (core : CoreUnit) (made : plain.Unit) (sequenced : Sequences core made)
           meant = runs core c.unit text valid t low;
         }
 
-    pub is-made : CoreTested (file_of core) → (frame : ℕ) → frame ≡ greatest made.frames → frame ≤ most_frame → (c : Compiled)
-        → IsWritten (plain.file_of made) frame c → IsMade core c
-    is-made tested frame is within c w = record {
+    is-made : CoreTested (file_of core) → greatest made.frames ≤ most_frame → (c : Compiled)
+        → IsWritten (plain.file_of made) (greatest made.frames) c → IsMade core c
+    is-made tested within c w = record {
       lowers = lowers tested low;
-      keeps = keeps frame c w;
-      frame = w.frame ∙ (is ∙ frames-are);
+      keeps = keeps (greatest made.frames) c w;
+      frame = w.frame ∙ frames-are;
       within = subst (λ n. n ≤ most_frame) (sym w.frame) within;
     }
+
+  -- ---- what becomes of the plain file becomes of the core
+
+  module _ (valid : IsValid core) (passes : Result Bool Memory) (told : IfOk passes (λ is. is ≡ core_passes (file_of core)))
+      (looked : looks (file_of core) ≡ true → Looked (file_of core)) (look : Looked (file_of core) → looks (file_of core) ≡ true)
+      (are-valid : UnitsAreValid) (are-written : AreWritten) (are-texts : AreTexts) (means : LowerableFileMeans) (runs : LowerableFileRunsAsMeant) where
+    passes-so : (b : Bool) → passes ≡ Ok b → core_passes (file_of core) ≡ b
+    passes-so b e = sym (subst (λ (r : Result Bool Memory). IfOk r (λ is. is ≡ core_passes (file_of core))) e told)
+
+    not-lowers : (passes ≡ Ok false) ⊎ (Lowerable (plain.file_of made) → ⊥) → Lowers core → ⊥
+    not-lowers (inl fails) l = core-fails (file_of core) look (passes-so false fails) l.tested
+    not-lowers (inr fails) l = fails (plain-lowers l)
+
+    pub makes : (result : Result Compiled Fault) → Finishes made passes result → Makes core result
+    makes (Ok c) f =
+        let tested = core-tested (file_of core) looked (passes-so true f.passed) in
+        is-made valid (f.lowerable core valid sequenced tested) are-valid are-written are-texts means runs tested f.within c f.written
+    makes (Err (fault.Broken b)) f = record { broken = f.broken; within = subst (λ n. n ≤ most_frame) frames-are f.within; none = not-lowers f.unfit }
+    makes (Err (fault.Limit limit)) f = record { limit = f.limit; past = subst (λ n. most_frame < n) frames-are f.past }
+    makes (Err fault.Memory) f = tt

@@ -1,17 +1,19 @@
 -- What the steps from the bytes of a file to its text give.
-use Rattle.std.specs.Prelude.{◌≡◌, ℕ, ◌≤◌, ◌<◌, List, Result, Ok, Err}
+use Rattle.std.specs.Prelude.{◌≡◌, ◌⊎◌, ℕ, ◌≤◌, ◌<◌, Bool, true, false, List, Result, Ok, Err}
 use Rattle.cf_base.specs.declared.limit.Limit.{Limit}
+use Rattle.cf_base.specs.declared.memory.Memory.{Memory}
 use Rattle.cf_base.specs.declared.rule.Broken.{Broken}
 use Rattle.cc_whole_print.specs.Units.{unit_text}
-use Rattle.cf_core.specs.FromUnit.{Unit as CoreUnit}
+use Rattle.cf_core.specs.FromUnit.{Unit as CoreUnit, IsValid, file_of}
 use Rattle.cf_first.specs.First.{First, breaks, passes, not_built}
 use Rattle.cf_lower_program.specs.Agrees.{IsLowered}
+use Rattle.cf_lower_program.specs.Lowerable.{Lowerable}
 use Rattle.cf_plain.specs.Plain.{PlainFile}
 use Rattle.cf_plain.specs.View as plain
 use Rattle.cf_sequence_unit.specs.Sequences.{Sequences}
 use Rattle.cf_compile.specs.Means.{KeepsMeaning}
-use Rattle.cf_compile.specs.Takes.{frame_bound, most_frame, frame_limit}
-use Rattle.cf_compile.specs.Tests.{Lowers}
+use Rattle.cf_compile.specs.Takes.{greatest, frame_bound, most_frame, frame_limit}
+use Rattle.cf_compile.specs.Tests.{CoreTested, Lowers}
 use Rattle.cf_compile.specs.declared.compiled.Compiled.{Compiled}
 use Rattle.cf_compile.specs.declared.fault.Fault.{Fault}
 use Rattle.cf_compile.specs.declared.fault.Fault.TheVariants as fault
@@ -22,13 +24,6 @@ HasCore bytes (Ok core) = First bytes (Ok core)
 HasCore bytes (Err (fault.Broken b)) = First bytes (Err (breaks b))
 HasCore bytes (Err (fault.Limit limit)) = First bytes (Err (passes limit))
 HasCore bytes (Err fault.Memory) = Unit {0}
-
--- the plain unit of a core whose constructs are all built
-abbrev pub SequencesTo : CoreUnit → Result plain.Unit Fault → Type 0
-SequencesTo core (Ok made) = Sequences core made
-SequencesTo core (Err fault.Memory) = Unit {0}
-SequencesTo core (Err (fault.Broken b)) = ⊥
-SequencesTo core (Err (fault.Limit limit)) = ⊥
 
 -- the unit that a plain file is lowered to, and the text that is printed for that
 pub record IsWritten (file : PlainFile) (frame : ℕ) (made : Compiled) : Type 0 where
@@ -42,6 +37,31 @@ Writes file frame (Ok made) = IsWritten file frame made
 Writes file frame (Err (fault.Broken b)) = ⊥
 Writes file frame (Err (fault.Limit limit)) = ⊥
 Writes file frame (Err fault.Memory) = Unit {0}
+
+-- The bound of the frames is within the limit, the core passes its tests, and the plain file is as lowering asks where it is made of such a core. This is its unit, with the text.
+pub record IsFinished (made : plain.Unit) (passes : Result Bool Memory) (c : Compiled) : Type 0 where
+  pub within : greatest made.frames ≤ most_frame
+  pub passed : passes ≡ Ok true
+  pub lowerable : (core : CoreUnit) → IsValid core → Sequences core made → CoreTested (file_of core) → Lowerable (plain.file_of made)
+  pub written : IsWritten (plain.file_of made) (greatest made.frames) c
+
+-- the core fails a test, or the plain file is not as lowering asks
+pub record IsUnfit (made : plain.Unit) (passes : Result Bool Memory) (b : Broken) : Type 0 where
+  pub broken : b ≡ not_built
+  pub within : greatest made.frames ≤ most_frame
+  pub unfit : (passes ≡ Ok false) ⊎ (Lowerable (plain.file_of made) → ⊥)
+
+-- a frame may pass the limit
+pub record IsTooLarge (made : plain.Unit) (limit : Limit) : Type 0 where
+  pub limit : limit ≡ frame_limit
+  pub past : most_frame < greatest made.frames
+
+-- what becomes of a plain file whose core passes its tests or not
+abbrev pub Finishes : plain.Unit → Result Bool Memory → Result Compiled Fault → Type 0
+Finishes made passes (Ok c) = IsFinished made passes c
+Finishes made passes (Err (fault.Broken b)) = IsUnfit made passes b
+Finishes made passes (Err (fault.Limit limit)) = IsTooLarge made limit
+Finishes made passes (Err fault.Memory) = Unit {0}
 
 -- the unit of a core that lowers, and its text, which keeps its meaning; the frames are within the limit
 pub record IsMade (core : CoreUnit) (made : Compiled) : Type 0 where
