@@ -1,3 +1,3 @@
 pub mod Greatest
-pub mod Making
+pub mod Keeping
 pub mod Once

@@ -1,7 +1,7 @@
 use Rattle.cf_core.specs.FromUnit.{file_of}
 use Rattle.cf_sequence_unit.proofs.Units.{no-definitions}
 use Rattle.cf_translate.proofs.Units.{no-classes, types-ordered}
-use Rattle.cf_compile.proofs.Making.{makes, registers-kept}
+use Rattle.cf_compile.proofs.Keeping.{makes, registers-kept}
 use Rattle.cf_compile.proofs.making.built.Goals as goal
 
 pub core_passes-requires : goal.core_passes-requires

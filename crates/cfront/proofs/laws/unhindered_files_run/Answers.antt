@@ -1,4 +1,4 @@
-use Rattle.cfront.proofs.Running.{unhindered_files_run, unhindered_words_run}
+use Rattle.cfront.proofs.Unhindered.{unhindered_files_run, unhindered_words_run}
 use Rattle.cfront.proofs.laws.unhindered_files_run.Goals as goal
 
 pub returns : goal.returns
