@@ -1,5 +1,5 @@
 -- From what the steps of a job leave to the cause of its answer.
-use Rattle.std.proofs.Common.{◌≡◌, ◌∙◌, ℕ, List, refl, sym, ap, IsTrue, Bool, true, false, inl, inr, Result, Ok, Err}
+use Rattle.std.proofs.Common.{◌≡◌, ◌∙◌, ℕ, List, refl, sym, ap, subst, IsTrue, Bool, true, false, inl, inr, Result, Ok, Err}
 use Rattle.cf_base.specs.Disk.{Disk, SameElsewhere}
 use Rattle.cf_base.specs.Stream.{Stream}
 use Rattle.cc_whole.specs.declared.unit.CProgram.{CProgram}
@@ -13,14 +13,15 @@ use Rattle.cfront.specs.declared.translating.Program.{Program}
 use Rattle.cfront.specs.declared.outcome.Outcome.{Outcome}
 use Rattle.cfront.specs.declared.outcome.Outcome.TheVariants as answer
 use Rattle.cfront.specs.declared.position.Position.{Position}
+use Rattle.cfront.specs.declared.answer.Answer.{Answer}
 use Rattle.cfront.specs.declared.answer.Stop.{Stop}
 use Rattle.cfront.specs.declared.answer.Stop.TheVariants as stop
 use Rattle.cfront.specs.Answer.{Causes, Answers, EndsWith, LineStands, LineFailed, is_fault, WordsCause, NoJob, GoJob}
 use Rattle.cfront.specs.Cause.{FileCause, read_failed, too_long, limited, refused, write_failed, not_linked, past_static, Stopped, stopped, NotStarted, not_started, StartStops, passes_nodes, passes_frames, Ran, ran, GoCause, Begun, TextLeft, unwritten, text_stands, LeftByMemory}
 use Rattle.cfront.specs.LastLine.{last_line}
 use Rattle.cfront.specs.Outside.{Outside, outside, streams_of, CountsStand, StreamsStand, KeepTelling}
-use Rattle.cfront.specs.Run.{RunsTo, RanTo, RunLeaves}
-use Rattle.cfront.specs.Steps.{CompileLeaves, WriteLeaves, DiskStands, DiskTold, StopLeaves, NotWritten, MemoryLeft, MadeOf, StartLeaves, StartedAs, StartedLeaves, BrokenOff, stays, runs}
+use Rattle.cfront.specs.Run.{RunsTo, RanTo}
+use Rattle.cfront.specs.Steps.{CompileLeaves, WriteLeaves, DiskStands, DiskTold, StopLeaves, NotWritten, MemoryLeft, MadeOf, StartLeaves, StartedAs, StartedLeaves, BrokenOff, stays, runs, GoLeaves}
 use Rattle.cfront.specs.Translated.{WasRead, DiskCountsStand, Made}
 use Rattle.cfront.specs.Words.{text_name}
 
@@ -69,15 +70,18 @@ write_stops file bytes text source old mid new stop.Memory read d taken w = reco
   counts = counts_after old mid new d.counts w.counts;
 }
 
--- a program that may start was run
-pub started_by_run : {M : Type 0} (p : Program) (limits : Limits) (old new : Streams) (result : Result Outcome M) → StartLeaves p limits (Ok tt)
-    → RunLeaves p.program limits old new result → StartedLeaves p limits old new result
-started_by_run p limits old new (Ok outcome) starts left = runs starts left
-started_by_run p limits old new (Err memory) starts left = record { starts = starts; left = left }
+-- a program that may start was run, and one that may not was not
+pub started_run : (p : Program) (limits : Limits) (old new : Streams) (a : Answer) (outcome : Outcome) → a.outcome ≡ outcome → StartLeaves p limits (Ok tt)
+    → RanTo p.program limits old new outcome → StartedAs p limits old new a.outcome
+started_run p limits old new a outcome e starts ran = runs starts (subst (RanTo p.program limits old new) (sym e) ran)
+
+pub started_not : (p : Program) (limits : Limits) (old : Streams) (a : Answer) (outcome : Outcome) → a.outcome ≡ outcome → StartLeaves p limits (Err outcome)
+    → StartedAs p limits old old a.outcome
+started_not p limits old a outcome e stops = stays (subst (λ o. StartLeaves p limits (Err o)) (sym e) stops) refl
 
 -- the causes of an answer of `go`
 pub started_so : (file : List ℕ) (limits : Limits) (files files' : Disk) (input out input' out' err : Stream) (position : Position) (outcome : Outcome) (p : Program)
-    → MadeOf file files files' p → StartedLeaves {M = Unit {0}} p limits (streams input out) (streams input' out') (Ok outcome)
+    → MadeOf file files files' p → StartedAs p limits (streams input out) (streams input' out') outcome
     → GoCause file limits (outside files input out err) (outside files' input' out' err) position outcome
 started_so file limits files files' input out input' out' err position outcome p made (stays stops same) = not_started (record {
   program = p.program;
@@ -127,6 +131,13 @@ module _ (file : List ℕ) (limits : Limits) (old new : Disk) (input out input' 
     counts = record { reads = left.counts.reads; writes = left.counts.writes; input = refl; out = refl; err = refl };
     streams = inl (record { input = refl; out = refl; err = refl });
   }
+
+-- what `go` leaves behind a program that was made
+pub go_so : {M : Type 0} (file : List ℕ) (limits : Limits) (files files' : Disk) (input out input' out' err : Stream) (p : Program) (result : Result Answer M)
+    → MadeOf file files files' p → StartedLeaves p limits (streams input out) (streams input' out') result
+    → GoLeaves file limits (outside files input out err) (outside files' input' out' err) result
+go_so file limits files files' input out input' out' err p (Ok a) made s = started_so file limits files files' input out input' out' err a.position a.outcome p made s
+go_so file limits files files' input out input' out' err p (Err memory) made s = run_by_memory file limits files files' input out input' out' err p made s
 
 pub fault_is : (outcome other : Outcome) → outcome ≡ other → is_fault outcome ≡ false → is_fault other ≡ false
 fault_is outcome other same no_fault = rw (← same) no_fault

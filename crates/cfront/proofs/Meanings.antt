@@ -1,5 +1,5 @@
 -- What the run of a file's program does is what the file means.
-use Rattle.std.proofs.Common.{◌≡◌, ◌∙◌, ℕ, Bool, true, false, List, [], ◌∷◌, Option, Some, Ok, Err, Result, refl, sym, subst, IsTrue, inl, inr}
+use Rattle.std.proofs.Common.{◌≡◌, ◌∙◌, ℕ, Bool, true, false, List, [], ◌∷◌, Option, Some, Ok, Err, Result, refl, sym, subst, IsTrue, inl, inr, if◌then◌else◌}
 use Rattle.cf_base.specs.Agree.{Agree, AgreesFrom}
 use Rattle.cf_base.specs.Event.{Event, End as EndOf, Ended, Ticks, Depth, Undefined}
 use Rattle.cf_base.specs.World.{Outcome as Meant}
@@ -44,7 +44,7 @@ module _ (source : CoreUnit) (unit : CUnit) (text : List ℕ) (program : CProgra
   outcome_of_text input = record {
     units = unit ∷ [];
     program = program;
-    read = more text unit [] [] keeps.spelled (subst IsTrue (sym keeps.valid) tt) none;
+    read = more text unit [] [] keeps.spelled keeps.valid none;
     linked = links_so (unit ∷ []) program within;
     runs = refl;
   }

@@ -4,6 +4,7 @@ use Rattle.cc_whole.specs.declared.unit.CUnit.{CUnit}
 use Rattle.cc_whole.specs.declared.unit.CProgram.{CProgram}
 use Rattle.cc_whole.specs.Plain.{items_of}
 use Rattle.cc_whole_limits.specs.Nodes.{nodes_of}
+use Rattle.cc_whole_limits.specs.StartLimit.{most_nodes, most_frames}
 use Rattle.cc_whole_link.specs.Link.{Refusal as LinkRefusal}
 use Rattle.cc_whole_linked.specs.Limited.{LinkAnswer, LinksWithin, linked, refused as not_linked_by, past_the_limit}
 use Rattle.cc_whole_run.specs.declared.types.Limits.{Limits}
@@ -15,7 +16,7 @@ use Rattle.cfront.specs.declared.outcome.Outcome.{Outcome}
 use Rattle.cfront.specs.declared.outcome.Outcome.TheVariants as answer
 use Rattle.cfront.specs.declared.position.Position.{Position}
 use Rattle.cfront.specs.Answer.{Answers, WordsCause, EndsWith, LineStands, is_fault}
-use Rattle.cfront.specs.Cause.{FileCause, read_failed, too_long, limited, refused, write_failed, not_linked, past_static, Stopped, stopped, NotStarted, not_started, StartStops, passes_nodes, passes_frames, MayStart, Ran, ran, GoCause}
+use Rattle.cfront.specs.Cause.{FileCause, read_failed, too_long, limited, refused, write_failed, not_linked, past_static, Stopped, stopped, NotStarted, not_started, StartStops, passes_nodes, passes_frames, frames_of_source, MayStart, Ran, ran, GoCause}
 use Rattle.cfront.specs.LastLine.{last_line}
 use Rattle.cfront.specs.Meant.{LinksAndStarts, Unhindered, UnhinderedFilesRun, RanAndTold, UnhinderedWordsRun}
 use Rattle.cfront.specs.Outside.{Outside, with_err}
@@ -70,8 +71,8 @@ module _ (once : FilesAreTakenOnce) (one : LinkingHasOneAnswer) (file : List ℕ
   may_start : {A : Type 0} (program p : CProgram) (source : CoreUnit) (outcome : Outcome) → p ≡ program → MayStart p source limits
       → StartStops program source limits outcome → A
   may_start program p source outcome same may (passes_nodes past e) =
-      too_many (nodes_of (items_of program.items)) _ past (subst (λ (x : CProgram). nodes_of (items_of x.items) ≤ _) same may.nodes)
-  may_start program p source outcome same may (passes_frames within past e) = too_many _ _ past may.frames
+      too_many (nodes_of (items_of program.items)) most_nodes past (subst (λ (x : CProgram). nodes_of (items_of x.items) ≤ most_nodes) same may.nodes)
+  may_start program p source outcome same may (passes_frames within past e) = too_many (frames_of_source source limits) most_frames past may.frames
 
   same_program : (p q : CProgram) → linked p ≡ linked q → q ≡ p
   same_program p q e = cc

@@ -123,8 +123,8 @@ pub record BrokenOff (p : Program) (limits : Limits) (old new : Streams) : Type 
   pub starts : StartLeaves p limits (Ok tt)
   pub left : Broken (meant p.program limits) old new
 
-abbrev pub StartedLeaves : {M : Type 0} → Program → Limits → Streams → Streams → Result Outcome M → Type 0
-StartedLeaves p limits old new (Ok outcome) = StartedAs p limits old new outcome
+abbrev pub StartedLeaves : {M : Type 0} → Program → Limits → Streams → Streams → Result Answer M → Type 0
+StartedLeaves p limits old new (Ok a) = StartedAs p limits old new a.outcome
 StartedLeaves p limits old new (Err memory) = BrokenOff p limits old new
 
 -- an answer before its last line

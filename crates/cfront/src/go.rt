@@ -31,7 +31,7 @@ pub fn gone<F: Files, I: Source, O: Sink, E: Sink>(
         (outside (F.disk files.new) (I.stream input.new) (O.stream out.new) (E.stream err.new)) }
 {
     match translated(alloc, file, files) {
-        Ok(program) => Ok(Answer::plain(started(alloc, &program, limits, input, out)?)),
+        Ok(program) => started(alloc, &program, limits, input, out),
         Err(Stop::Answer(answer)) => Ok(answer),
         Err(Stop::Memory) => Err(Memory),
     }
@@ -44,14 +44,17 @@ fn started<I: Source, O: Sink>(
     limits: Limits,
     input: &mut I,
     out: &mut O,
-) -> Result<Outcome, Memory>
+) -> Result<Answer, Memory>
     requires frame { program.now.frame ≤ 65536 }
     ensures leaves { StartedLeaves program.now limits (streams (I.stream input.old) (O.stream out.old)) (streams (I.stream input.new) (O.stream out.new)) result }
     ensures told { StillTold (streams (I.stream input.old) (O.stream out.old)) (streams (I.stream input.new) (O.stream out.new)) }
 {
     match may_start(program, limits) {
-        Ok(()) => run_program(alloc, &program.program, limits, input, out),
-        Err(outcome) => Ok(outcome),
+        Ok(()) => match run_program(alloc, &program.program, limits, input, out) {
+            Ok(outcome) => Ok(Answer::plain(outcome)),
+            Err(Memory) => Err(Memory),
+        },
+        Err(outcome) => Ok(Answer::plain(outcome)),
     }
 }
 
