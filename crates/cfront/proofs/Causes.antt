@@ -1,11 +1,11 @@
 -- From what the steps of a job leave to the cause of its answer.
-use Rattle.std.proofs.Common.{◌≡◌, ◌∙◌, ℕ, List, refl, sym, ap, subst, IsTrue, Bool, true, false, inl, inr, Result, Ok, Err}
+use Rattle.std.proofs.Common.{◌≡◌, ◌∙◌, ℕ, List, refl, sym, ap, IsTrue, Bool, true, false, inl, inr, Result, Ok, Err}
 use Rattle.cf_base.specs.Disk.{Disk, SameElsewhere}
 use Rattle.cf_base.specs.Stream.{Stream}
 use Rattle.cc_whole.specs.declared.unit.CProgram.{CProgram}
 use Rattle.cc_whole_run.specs.declared.types.Limits.{Limits}
 use Rattle.cc_whole_run.specs.Run.{meant}
-use Rattle.cf_streams.specs.Streams.{Streams, streams, StillTold, SameCounts}
+use Rattle.cf_streams.specs.Streams.{streams, StillTold, SameCounts}
 use Rattle.cf_core.specs.FromUnit.{Unit as CoreUnit}
 use Rattle.cf_compile.specs.Takes.{Takes, frame_bound}
 use Rattle.cf_compile.specs.declared.compiled.Compiled.{Compiled}
@@ -20,8 +20,8 @@ use Rattle.cfront.specs.Answer.{Causes, Answers, EndsWith, LineStands, LineFaile
 use Rattle.cfront.specs.Cause.{FileCause, read_failed, too_long, limited, refused, write_failed, not_linked, past_static, Stopped, stopped, NotStarted, not_started, StartStops, passes_nodes, passes_frames, Ran, ran, GoCause, Begun, TextLeft, unwritten, text_stands, LeftByMemory}
 use Rattle.cfront.specs.LastLine.{last_line}
 use Rattle.cfront.specs.Outside.{Outside, outside, streams_of, CountsStand, StreamsStand, KeepTelling}
-use Rattle.cfront.specs.Run.{RunsTo, RanTo}
-use Rattle.cfront.specs.Steps.{CompileLeaves, WriteLeaves, DiskStands, DiskTold, StopLeaves, NotWritten, MemoryLeft, MadeOf, StartLeaves, StartedAs, StartedLeaves, BrokenOff, stays, runs, GoLeaves}
+use Rattle.cfront.specs.Run.{RunsTo}
+use Rattle.cfront.specs.Steps.{CompileLeaves, WriteLeaves, DiskStands, DiskTold, StopLeaves, NotWritten, MemoryLeft, MadeOf, StartedAs, StartedLeaves, BrokenOff, stays, runs, GoLeaves}
 use Rattle.cfront.specs.Translated.{WasRead, DiskCountsStand, Made}
 use Rattle.cfront.specs.Words.{text_name}
 
@@ -69,15 +69,6 @@ write_stops file bytes text source old mid new stop.Memory read d taken w = reco
   elsewhere = λ told other differs. rw (w.content (d.told told), d.content) refl;
   counts = counts_after old mid new d.counts w.counts;
 }
-
--- a program that may start was run, and one that may not was not
-pub started_run : (p : Program) (limits : Limits) (old new : Streams) (a : Answer) (outcome : Outcome) → a.outcome ≡ outcome → StartLeaves p limits (Ok tt)
-    → RanTo p.program limits old new outcome → StartedAs p limits old new a.outcome
-started_run p limits old new a outcome e starts ran = runs starts (subst (RanTo p.program limits old new) (sym e) ran)
-
-pub started_not : (p : Program) (limits : Limits) (old : Streams) (a : Answer) (outcome : Outcome) → a.outcome ≡ outcome → StartLeaves p limits (Err outcome)
-    → StartedAs p limits old old a.outcome
-started_not p limits old a outcome e stops = stays (subst (λ o. StartLeaves p limits (Err o)) (sym e) stops) refl
 
 -- the causes of an answer of `go`
 pub started_so : (file : List ℕ) (limits : Limits) (files files' : Disk) (input out input' out' err : Stream) (position : Position) (outcome : Outcome) (p : Program)
