@@ -284,10 +284,24 @@ fn frame_passes_the_limit(rt: HostRuntime) -> Result<(), Fail> {
         limit,
     };
     let line = "a.C: limit Frame 65536\n";
-    check_text(&rt, alloc, b"int main(){char b[65536];return 7;}", want, "", line)?;
+    check_text(
+        &rt,
+        alloc,
+        b"int main(){char b[65536];return 7;}",
+        want,
+        "",
+        line,
+    )?;
     let want = Outcome::Frames { product: 8_519_680 };
     let line = "cfront: frames 8519680\n";
-    check_text(&rt, alloc, b"int main(){char b[8200];return 7;}", want, "", line)
+    check_text(
+        &rt,
+        alloc,
+        b"int main(){char b[8200];return 7;}",
+        want,
+        "",
+        line,
+    )
 }
 
 #[test]
