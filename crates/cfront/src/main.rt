@@ -11,6 +11,8 @@ mod failing_tests;
 mod go;
 mod last_line;
 mod laws;
+#[cfg(test)]
+mod limit_tests;
 mod outcome;
 mod position;
 mod running;

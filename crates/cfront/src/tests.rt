@@ -7,7 +7,7 @@ use crate::outcome::{Outcome, status};
 use crate::top::{DEFAULT_LIMITS, cfront};
 use cc_whole_memory::Act;
 use cc_whole_run::Limits;
-use cf_base::{Bound, Files, Limit, MemFiles, MemSink, MemSource, Memory, Name, Rule};
+use cf_base::{Files, MemFiles, MemSink, MemSource, Memory, Name, Rule};
 use std::alloc::{AllocError, Global};
 use std::process::Abort;
 use std::test::Fail;
@@ -89,7 +89,7 @@ pub fn check(
 }
 
 /// Does `go` on a file with this text, and checks its answer, its output and the line on `err`.
-fn check_text(
+pub fn check_text(
     rt: &impl Abort,
     alloc: Global,
     text: &[u8],
@@ -273,38 +273,6 @@ fn class_is_outside(rt: HostRuntime) -> Result<(), Fail> {
 }
 
 #[test]
-fn frame_passes_the_limit(rt: HostRuntime) -> Result<(), Fail> {
-    let alloc = rt.alloc();
-    let limit = Limit {
-        bound: Bound::Frame,
-        most: 65_536,
-    };
-    let want = Outcome::Limit {
-        file: Some(1),
-        limit,
-    };
-    let line = "a.C: limit Frame 65536\n";
-    check_text(
-        &rt,
-        alloc,
-        b"int main(){char b[65536];return 7;}",
-        want,
-        "",
-        line,
-    )?;
-    let want = Outcome::Frames { product: 8_519_680 };
-    let line = "cfront: frames 8519680\n";
-    check_text(
-        &rt,
-        alloc,
-        b"int main(){char b[8200];return 7;}",
-        want,
-        "",
-        line,
-    )
-}
-
-#[test]
 fn text_stands_beside_the_file(rt: HostRuntime) -> Result<(), Fail> {
     let alloc = rt.alloc();
     let mut files = file(alloc, SEVEN, NONE_FAILS)?;
@@ -407,56 +375,6 @@ fn sum_with_output(rt: HostRuntime) -> Result<(), Fail> {
         b"int f(int n){int s=0;while(0<n){s=s+n;n=n-1;}return s;}int main(){putchar(65);return f(4);}";
     let want = Outcome::Ended { status: 10 };
     check_text(&rt, rt.alloc(), text, want, "A", "cfront: ended 10\n")
-}
-
-/// A `main` that returns 7 in so many brackets.
-fn nested(alloc: Global, brackets: u32) -> Result<Vec<u8>, AllocError> {
-    let mut text = Vec::from_slice(alloc, b"int main(){return ")?;
-    for _ in 0..brackets {
-        text.push(b'(')?;
-    }
-    text.push(b'7')?;
-    for _ in 0..brackets {
-        text.push(b')')?;
-    }
-    text.extend_from_slice(b";}")?;
-    Ok(text)
-}
-
-#[test]
-fn nesting(rt: HostRuntime) -> Result<(), Fail> {
-    let alloc = rt.alloc();
-    let most = nested(alloc, 250)?;
-    let want = Outcome::Ended { status: 7 };
-    check_text(&rt, alloc, &most, want, "", "cfront: ended 7\n")?;
-    let more = nested(alloc, 251)?;
-    let want = Outcome::Limit {
-        file: Some(1),
-        limit: Limit {
-            bound: Bound::Nesting,
-            most: 256,
-        },
-    };
-    check_text(&rt, alloc, &more, want, "", "a.C: limit Nesting 256\n")
-}
-
-#[test]
-fn long_file_passes_the_limit(rt: HostRuntime) -> Result<(), Fail> {
-    let alloc = rt.alloc();
-    let text = vec![in alloc; b' '; 1_048_577]?;
-    let want = Outcome::Limit {
-        file: Some(1),
-        limit: Limit {
-            bound: Bound::Bytes,
-            most: 1_048_576,
-        },
-    };
-    let job = Job {
-        words: &["go", "a.C"],
-        text: text.as_slice(),
-        failing: NONE_FAILS,
-    };
-    check(&rt, alloc, &job, want, "a.C: limit Bytes 1048576\n")
 }
 
 /// What `go` answers on a file with this text, within so many ticks, and what it leaves on `err`.
