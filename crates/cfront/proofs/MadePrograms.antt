@@ -33,6 +33,7 @@ module _ (file bytes name : List ℕ) (old mid new : Disk) (read : WasRead file 
 
   -- its unit links to a program
   pub made_of : (program : CProgram) → LinkLeaves made.unit (Ok program) → MadeOf file old new (record { program = program; frame = made.frame })
+  unfolding stands
   made_of program linked = record { made = record { unit = made.unit; stands = stands; linked = linked }; frame = is.frame }
 
   -- or does not
