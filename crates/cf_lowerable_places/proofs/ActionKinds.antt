@@ -1,5 +1,5 @@
 -- Which kinds an integer has that an action of code gives, by its form.
-use Rattle.std.proofs.Common.{◌≡◌, ℕ, Bool, List, Option, sym, ap, subst, ◌∙◌, true}
+use Rattle.std.proofs.Common.{◌≡◌, ℕ, Bool, List, Option, sym, ap, subst, true}
 use Rattle.std.specs.Option.{option_map}
 use Rattle.cf_base.specs.declared.kind.Kind.{Kind}
 use Rattle.cf_core.specs.declared.operators.UnaryOperator.{UnaryOperator}

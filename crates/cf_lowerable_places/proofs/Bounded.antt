@@ -1,5 +1,5 @@
 -- The registers that statements set are below their bound, so that it need not be asked for.
-use Rattle.std.proofs.Common.{◌≡◌, ℕ, suc, ◌≤◌, ◌<◌, nat_lt, max, Bool, true, false, ◌&&◌, Option, Some, None, List, [], refl, sym, ap, ◌∙◌, arith}
+use Rattle.std.proofs.Common.{◌≡◌, ℕ, ◌≤◌, nat_lt, Bool, true, false, ◌&&◌, Option, Some, None, List, [], refl, ap, ◌∙◌, arith}
 use Rattle.std.proofs.lemmas.Bool.Decides.{nat_tests}
 use Rattle.cf_core.specs.Types.{result as result_type}
 use Rattle.cf_core.specs.Classes.{Class}
@@ -10,11 +10,11 @@ use Rattle.cf_lower_place.specs.Calls.{fits, has_local}
 use Rattle.cf_lower_place.specs.InPlace.{in_place, all_in_place, items_in_place, is_number, switches}
 use Rattle.cf_lower_place.specs.Leaf.{may_set}
 use Rattle.cf_lower_place.specs.Named.{library_type, takes_locals}
-use Rattle.cf_lower_place.specs.View.{View, Reach}
+use Rattle.cf_lower_place.specs.View.{Reach}
 use Rattle.cf_plain.specs.Plain as plain
 use Rattle.cf_plain.specs.Plain.{Action, Plain, Plains, act, set, branch, loop, switch, case_label, default_label, leave, continue, give, parts, nothing, more}
 use Rattle.cf_plain.specs.Valid.{labels_differ}
-use Rattle.cf_lowerable_places.specs.Fits.{view, view_below, set_fits, statement_fits}
+use Rattle.cf_lowerable_places.specs.Fits.{view, view_below, statement_fits}
 
 module _ (locals : Locals) (given : Option Sort) (classes : List Class) (n : ℕ) where
   abbrev pub reach : Reach

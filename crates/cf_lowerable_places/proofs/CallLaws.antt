@@ -4,7 +4,6 @@ use Rattle.std.specs.Prelude.{bytes_eq, codes}
 use Rattle.cf_base.specs.declared.kind.Kind.TheVariants.{Int}
 use Rattle.cf_core.specs.Classes.{Class}
 use Rattle.cf_core.specs.Types.{Name, SourceType, void, integer, enumeration, class, pointer, reference, array, takes, gives, data_member, function_member, const, without_const, type_eq, parameters, result as result_type}
-use Rattle.cf_core.specs.Calls.{is_library}
 use Rattle.cf_lower.specs.Kept.{Kept, Keeping, Locals}
 use Rattle.cf_lower.specs.Written.{if_scalar, c_type}
 use Rattle.cc_whole.specs.declared.types.CType.TheVariants as ty
@@ -15,8 +14,8 @@ use Rattle.cf_lower_place.specs.Named.{library_type, is_signature, takes_locals}
 use Rattle.cc_whole_mean.specs.Callee.{same_result, same_types}
 use Rattle.cf_lowerable_places.specs.declared.library.Library.{Library}
 use Rattle.cf_lowerable_places.specs.declared.library.Library.TheVariants as library
-use Rattle.cf_lowerable_places.specs.Fits.{named_fits, pointed_fits, set_fits}
-use Rattle.cf_lowerable_places.specs.Library.{library_named, as_many, gives_as, library_call_fits, may_lead, may_lead_to_each, type_of_library}
+use Rattle.cf_lowerable_places.specs.Fits.{named_fits, pointed_fits}
+use Rattle.cf_lowerable_places.specs.Library.{library_named, as_many, library_call_fits, may_lead, may_lead_to_each}
 use Rattle.cf_lowerable_places.proofs.LibraryLaws.{by_names}
 
 -- ---- results

@@ -1,5 +1,5 @@
 -- Which kinds an integer has that an action gives.
-use Rattle.std.proofs.Common.{◌≡◌, Bool, true, false, ◌&&◌, ◌||◌, if◌then◌else◌, Option, Some, None, refl, sym, ap, subst, ◌∙◌}
+use Rattle.std.proofs.Common.{◌≡◌, Bool, true, false, ◌&&◌, ◌||◌, if◌then◌else◌, Option, Some, refl, sym, ap, subst, ◌∙◌}
 use Rattle.std.specs.Prelude.{ℤ, ℕ}
 use Rattle.cf_base.specs.declared.kind.Kind.{Kind}
 use Rattle.cf_base.specs.declared.kind.Kind.TheVariants.{Int, UInt}
@@ -15,7 +15,7 @@ use Rattle.cf_core.specs.declared.operators.PointerOperator.{PointerOperator}
 use Rattle.cf_core.specs.declared.operators.PointerOperator.TheVariants as pointer
 use Rattle.cf_core.specs.Types.{SourceType, without_const}
 use Rattle.cf_core.specs.Places.{is_scalar}
-use Rattle.cf_lower_layout.specs.Sorts.{Sort, number, address, code, sort_of, sort_to}
+use Rattle.cf_lower_layout.specs.Sorts.{Sort, number, address, code}
 use Rattle.cf_plain.specs.Plain.{Action, Register}
 use Rattle.cf_lower.specs.Kept.{Kept, unknown, integer_of, holds, argument, Keeping, Locals, within, a_truth, result_kept, operated_kept, changed_kept, constant_kept, decayed_kept, pointer_of, declared_kept, is_argument, of_sort, kept_by, keep}
 use Rattle.cf_lower_held.specs.Holds.{erased, erasing}

@@ -1,16 +1,15 @@
 -- What registers hold with the kinds of integers, where it is known without.
-use Rattle.std.proofs.Common.{◌≡◌, ℕ, zero, suc, ◌+◌, ◌<◌, ◌≤◌, ◌==◌, nat_lt, Bool, true, false, ◌&&◌, if◌then◌else◌, List, [], ◌∷◌, ◌++◌, length, slice_get, Option, Some, None, refl, sym, ap, ◌∙◌, arith}
+use Rattle.std.proofs.Common.{◌≡◌, ℕ, zero, suc, ◌+◌, ◌<◌, ◌≤◌, ◌==◌, nat_lt, Bool, true, false, if◌then◌else◌, List, [], ◌∷◌, ◌++◌, length, slice_get, None, refl, sym, ap, ◌∙◌, arith}
 use Rattle.std.specs.Prelude.{slice_set}
 use Rattle.std.proofs.lemmas.Bool.Decides.{nat_tests}
 use Rattle.std.proofs.lemmas.List.{length-set}
 use Rattle.cf_base.specs.declared.kind.Kind.{Kind}
 use Rattle.cf_core.specs.FromTypes.{Tables}
-use Rattle.cf_plain.specs.Plain.{Register, Plains}
+use Rattle.cf_plain.specs.Plain.{Plains}
 use Rattle.cf_lower.specs.Kept.{Kept, unknown, integer_of, holds, argument, Keeping, Locals, keep, common, both_kept, same_kept, nothing_kept, untouched, all_set}
 use Rattle.cf_lower_layout.specs.Sorts.{number, address, code}
 use Rattle.cf_lower_held.specs.declared.held.Held.{Held}
 use Rattle.cf_lower_held.specs.declared.held.Held.TheVariants as held
-use Rattle.cf_lower_held.specs.declared.registers.Registers.{Registers}
 use Rattle.cf_lower_held.specs.declared.scene.Scene.{Scene}
 use Rattle.cf_lower_held.specs.Holds.{erased, erasing, kept_in, keeping, held_at}
 use Rattle.cf_lower_held.proofs.Erased.{erased_kept}

@@ -1,5 +1,5 @@
 -- What label a statement of code is, by its form.
-use Rattle.std.proofs.Common.{◌≡◌, ℕ, List, map, Option, refl, sym, ap, ◌∙◌}
+use Rattle.std.proofs.Common.{◌≡◌, ℕ, List, Option, refl, sym, ap, ◌∙◌}
 use Rattle.std.specs.Prelude.{ℤ}
 use Rattle.cf_core.specs.FromClasses.{signature_of}
 use Rattle.cf_plain.specs.declared.action.Action.{Action as CodeAction}

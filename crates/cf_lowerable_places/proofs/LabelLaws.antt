@@ -4,9 +4,9 @@ use Rattle.std.specs.Prelude.{int_le}
 use Rattle.std.proofs.lemmas.List.{at_drop_all}
 use Rattle.cf_base.specs.declared.kind.Kind.{Kind}
 use Rattle.cf_plain.specs.declared.statement.Plain.{Plain as CodePlain}
-use Rattle.cf_plain.specs.Plain.{Plain, Plains, act, set, branch, loop, switch, case_label, default_label, leave, continue, give, parts, nothing, more}
+use Rattle.cf_plain.specs.Plain.{Plain, Plains, case_label, default_label, nothing, more}
 use Rattle.cf_plain.specs.Running.{has_case}
-use Rattle.cf_plain.specs.Valid.{has_default, labels_differ}
+use Rattle.cf_plain.specs.Valid.{labels_differ}
 use Rattle.cf_lower_held.specs.declared.scene.Scene.{Scene}
 use Rattle.cf_lower_held.specs.Scenes.{statement_in, statements_in}
 use Rattle.cf_lower_held.proofs.Forgotten.{drop_item}

@@ -4,9 +4,8 @@ use Rattle.std.specs.Prelude.{bytes_eq, codes}
 use Rattle.cf_base.specs.declared.kind.Kind.TheVariants.{Int}
 use Rattle.cf_types.specs.declared.ty.Fun.{Fun}
 use Rattle.cf_core.specs.Types.{Name, SourceType, void, integer, takes, gives, without_const, type_eq}
-use Rattle.cf_core.specs.Calls.{is_library}
 use Rattle.cf_core.specs.FromTypes.{Tables, type_of, taking, fun_type}
-use Rattle.cf_lower_place.specs.Named.{library_type, may_be_named}
+use Rattle.cf_lower_place.specs.Named.{may_be_named}
 use Rattle.cf_lower_types.specs.declared.form.Form.{Form}
 use Rattle.cf_lower_types.specs.declared.form.Form.TheVariants as form
 use Rattle.cf_lower_types.specs.Bare.{bare, form_type}

@@ -1,5 +1,5 @@
 -- What operators ask of what two operands hold, by what is asked of each.
-use Rattle.std.proofs.Common.{◌≡◌, Bool, true, false, ◌&&◌, not, refl, sym, ap, ◌∙◌}
+use Rattle.std.proofs.Common.{◌≡◌, Bool, true, false, ◌&&◌, refl, sym, ◌∙◌}
 use Rattle.cf_lower_layout.specs.Sorts.{number, address, code}
 use Rattle.cf_lower.specs.Kept.{Kept, unknown, integer_of, holds, argument}
 use Rattle.cf_lower_place.specs.Leaf.{is_integer, is_address, may_zero, may_move, may_add, may_subtract, have_order}

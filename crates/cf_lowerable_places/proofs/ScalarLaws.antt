@@ -1,5 +1,5 @@
 -- What scalars take of what registers hold.
-use Rattle.std.proofs.Common.{◌≡◌, ℕ, Bool, true, false, ◌&&◌, ◌||◌, refl, sym, ap, ◌∙◌}
+use Rattle.std.proofs.Common.{◌≡◌, ℕ, Bool, true, false, ◌&&◌, ◌||◌, sym, ap, ◌∙◌}
 use Rattle.std.specs.Prelude.{Option}
 use Rattle.cf_core.specs.Types.{SourceType, void, type_eq}
 use Rattle.cf_lower_layout.specs.Sorts.{Sort, sort_of}

@@ -1,5 +1,5 @@
 -- The functions of a file, one after the other.
-use Rattle.std.proofs.Common.{◌≡◌, ℕ, ◌+◌, ◌<◌, ◌≤◌, Bool, true, false, ◌&&◌, List, ◌∷◌, length, map, drop, get_or, refl, sym, ap, subst, ◌∙◌}
+use Rattle.std.proofs.Common.{◌≡◌, ℕ, ◌+◌, ◌<◌, ◌≤◌, Bool, true, false, ◌&&◌, List, length, map, drop, get_or, sym, ap, ◌∙◌}
 use Rattle.std.proofs.lemmas.List.{at_drop_all}
 use Rattle.std.specs.List.{list_all}
 use Rattle.cf_classes.specs.ClassTable.{ClassTable}
@@ -7,7 +7,7 @@ use Rattle.cf_core.specs.FromTypes.{Tables}
 use Rattle.cf_lower_held.proofs.Forgotten.{drop_item}
 use Rattle.cf_lower_place.specs.Named.{function_in_place, functions_in_place}
 use Rattle.cf_lower_types.specs.Bare.{classes_of}
-use Rattle.cf_plain.specs.View.{Unit, file_of, function_of, tables_of}
+use Rattle.cf_plain.specs.View.{Unit, file_of, function_of}
 use Rattle.cf_plain.specs.declared.unit.PlainFn.{PlainFn}
 use Rattle.cf_types.specs.Table.{Table}
 

@@ -1,5 +1,5 @@
 -- The labels of a switch.
-use Rattle.std.specs.Prelude.{ℤ, int_le, Bool, true, false, ◌&&◌, not, []}
+use Rattle.std.specs.Prelude.{int_le, Bool, true, false, ◌&&◌, not, []}
 use Rattle.cf_base.specs.declared.kind.Kind.{Kind}
 use Rattle.cf_base.specs.Integers.{fits}
 use Rattle.cf_plain.specs.Plain.{Plain, Plains, case_label, default_label}

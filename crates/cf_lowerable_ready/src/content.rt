@@ -1,14 +1,13 @@
 //! What a register holds.
 
-ghost use Rattle.std.specs.Prelude.{◌≡◌, ◌<◌, ℕ, length, OnOk};
+ghost use Rattle.std.specs.Prelude.{◌≡◌, Some};
 ghost use Rattle.cf_core.specs.FromTypes.{Tables as TablesOf};
 ghost use Rattle.cf_core.specs.Types as types;
 ghost use Rattle.cf_lower_types.specs.Bare.{type_in};
 ghost use Rattle.cf_plain_kept.specs.Kept as definition;
 ghost use Rattle.cf_lowerable_ready.specs.Contents as spec;
-ghost use Rattle.cf_lowerable_ready.specs.Contents.{content_at, known};
+ghost use Rattle.cf_lowerable_ready.specs.Contents.{held_in, known};
 
-use cf_base::Memory;
 use cf_lower_types::PlaceType;
 use cf_lowerable_types::Kinds;
 use cf_types::TyId;
@@ -50,6 +49,60 @@ pub enum Content {
     Object(u32, TyId),
 }
 
+/// The same as it stands in a list, with no enum inside.
+#[derive(Clone, Copy, Debug, PartialEq, Eq)]
+pub enum Stored {
+    Unset,
+    NoValue,
+    Number(Kinds),
+    Of(TyId),
+    Character,
+    Characters(u64),
+    Member(TyId),
+    Object(u32, TyId),
+}
+
+/// A place as it stands in a list.
+fn stored_place(place: &Place) -> Stored
+    ensures { (tables : TablesOf) → held_in tables result ≡ Some (definition.a_place (spec.place_type tables place.now)) }
+{
+    match place {
+        Place::Of(id) => Stored::Of(*id),
+        Place::Character => Stored::Character,
+        Place::Characters(count) => Stored::Characters(*count),
+    }
+}
+
+/// What a register holds as it stands in a list.
+pub fn stored_of(content: &Content) -> Stored
+    ensures { (tables : TablesOf) → held_in tables result ≡ known tables content.now }
+{
+    match content {
+        Content::Unset => Stored::Unset,
+        Content::NoValue => Stored::NoValue,
+        Content::Number(kinds) => Stored::Number(*kinds),
+        Content::Place(place) => stored_place(place),
+        Content::Member(ty) => Stored::Member(*ty),
+        Content::Object(local, ty) => Stored::Object(*local, *ty),
+    }
+}
+
+/// What a register holds, from a list.
+pub fn content_of(stored: &Stored) -> Content
+    ensures { (tables : TablesOf) → known tables result ≡ held_in tables stored.now }
+{
+    match stored {
+        Stored::Unset => Content::Unset,
+        Stored::NoValue => Content::NoValue,
+        Stored::Number(kinds) => Content::Number(*kinds),
+        Stored::Of(id) => Content::Place(Place::Of(*id)),
+        Stored::Character => Content::Place(Place::Character),
+        Stored::Characters(count) => Content::Place(Place::Characters(*count)),
+        Stored::Member(ty) => Content::Member(*ty),
+        Stored::Object(local, ty) => Content::Object(*local, *ty),
+    }
+}
+
 /// Whether it is an integer.
 pub fn is_integer(content: &Content) -> bool
     ensures { (tables : TablesOf) → result ≡ definition.integer_in (known tables content.now) }
@@ -76,15 +129,4 @@ pub fn is_no_value(content: &Content) -> bool
         | Content::Member(_)
         | Content::Object(_, _) => false,
     }
-}
-
-/// Makes room up to an index, with nothing held there.
-pub fn reach(all: &mut Vec<Content>, index: usize) -> Result<(), Memory>
-    ensures same { (q : ℕ) → OnOk result (content_at all.new.items q ≡ content_at all.old.items q) }
-    ensures long { OnOk result (index < length all.new.items) }
-{
-    while all.len() <= index {
-        all.push(Content::Unset)?;
-    }
-    Ok(())
 }

@@ -1,12 +1,12 @@
 //! What all registers hold.
 
-ghost use Rattle.std.specs.Prelude.{◌≡◌, ◌==◌, ◌<◌, length, slice_set, IfOk, OnOk};
+ghost use Rattle.std.specs.Prelude.{◌≡◌, ◌==◌, ◌<◌, ℕ, length, slice_set, IfOk, OnOk};
 ghost use Rattle.cf_core.specs.FromTypes.{Tables as TablesOf};
 ghost use Rattle.cf_plain_kept.specs.Kept as definition;
-ghost use Rattle.cf_lowerable_ready.specs.Contents.{content_at, keeping, known, put as put_in, without};
+ghost use Rattle.cf_lowerable_ready.specs.Contents.{keeping, known, put as put_in, stored_at, without};
 
-use crate::content::{Content, reach};
-use crate::meeting::both;
+use crate::content::{Content, Stored, content_of, stored_of};
+use crate::meeting::both_stored;
 use cf_base::Memory;
 use cf_lower_types::Tables;
 use std::alloc::Global;
@@ -14,25 +14,36 @@ use std::alloc::Global;
 /// What each register holds, by its number; nothing behind the last.
 #[derive(Drop)]
 pub struct Contents {
-    held: Vec<Content>,
+    held: Vec<Stored>,
 }
 
 /// What stands at an index; nothing behind the last.
-fn at(all: &[Content], index: usize) -> Content
-    ensures { result ≡ content_at all.now index }
+fn at(all: &[Stored], index: usize) -> Stored
+    ensures { result ≡ stored_at all.now index }
 {
     match all.get(index) {
-        Some(content) => *content,
-        None => Content::Unset,
+        Some(stored) => *stored,
+        None => Stored::Unset,
     }
 }
 
-/// Something else is held at an index.
-fn put(all: &mut Vec<Content>, index: usize, content: Content)
-    requires { index < length all.old.items }
-    ensures { all.new.items ≡ slice_set all.old.items index content }
+/// Makes room up to an index, with nothing held there.
+fn reach(all: &mut Vec<Stored>, index: usize) -> Result<(), Memory>
+    ensures same { (q : ℕ) → OnOk result (stored_at all.new.items q ≡ stored_at all.old.items q) }
+    ensures long { OnOk result (index < length all.new.items) }
 {
-    all[index] = content;
+    while all.len() <= index {
+        all.push(Stored::Unset)?;
+    }
+    Ok(())
+}
+
+/// Something else is held at an index.
+fn put(all: &mut Vec<Stored>, index: usize, stored: Stored)
+    requires { index < length all.old.items }
+    ensures { all.new.items ≡ slice_set all.old.items index stored }
+{
+    all[index] = stored;
 }
 
 impl Contents {
@@ -50,7 +61,8 @@ impl Contents {
     pub fn get(&self, register: u32) -> Content
         ensures { (tables : TablesOf) → known tables result ≡ keeping tables self.now register }
     {
-        at(self.held.as_slice(), register as usize)
+        let stored = at(self.held.as_slice(), register as usize);
+        content_of(&stored)
     }
 
     /// The same in a list of its own.
@@ -69,7 +81,8 @@ impl Contents {
     {
         let index = register as usize;
         reach(&mut self.held, index)?;
-        put(&mut self.held, index, content);
+        let stored = stored_of(&content);
+        put(&mut self.held, index, stored);
         Ok(())
     }
 
@@ -80,7 +93,7 @@ impl Contents {
     {
         let index = register as usize;
         if index < self.held.len() {
-            put(&mut self.held, index, Content::Unset);
+            put(&mut self.held, index, Stored::Unset);
         }
     }
 
@@ -99,8 +112,8 @@ impl Contents {
         for index in 0..self.held.len() {
             let here = at(self.held.as_slice(), index);
             let there = at(other.held.as_slice(), index);
-            let content = both(tables, &here, &there)?;
-            put(&mut self.held, index, content);
+            let stored = both_stored(tables, &here, &there)?;
+            put(&mut self.held, index, stored);
         }
         Ok(())
     }

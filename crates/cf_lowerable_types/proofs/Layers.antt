@@ -1,5 +1,5 @@
 -- Types by what stands outermost in them.
-use Rattle.std.proofs.Common.{◌≡◌, ℕ, zero, suc, ◌<◌, ◌==◌, Bool, true, false, ◌&&◌, not, nat_lt, List, [], ◌∷◌, length, map, Option, Some, None, slice_get, refl, sym, ap, subst, ◌∙◌, arith}
+use Rattle.std.proofs.Common.{◌≡◌, ℕ, zero, suc, ◌<◌, Bool, true, false, List, [], ◌∷◌, length, map, Option, Some, None, slice_get, refl, sym, ap, subst, ◌∙◌, arith}
 use Rattle.cf_base.specs.declared.kind.Kind.{Kind}
 use Rattle.cf_types.specs.declared.ty.Fun.{Fun}
 use Rattle.cf_types.specs.declared.ty.Ty.{Ty}
@@ -9,15 +9,12 @@ use Rattle.cf_core.specs.Types.{SourceType, void, integer, enumeration, class, p
 use Rattle.cf_core.specs.FromTypes.{Tables, type_of, type_step, taking, fun_type}
 use Rattle.cf_core.specs.Places.{is_reference, is_const}
 use Rattle.cf_lower_kept.specs.Ready.{is_code}
-use Rattle.cf_lower_layout.specs.Layout.{has_bytes, const_once}
 use Rattle.cf_lower_layout.specs.Sorts.{Sort, sort_to}
-use Rattle.cf_lower_place.specs.Leaf.{const_on_none}
-use Rattle.cf_lower_place.specs.Named.{is_signature}
 use Rattle.cf_lower_types.specs.declared.form.Form.{Form}
 use Rattle.cf_lower_types.specs.declared.form.Form.TheVariants as form
 use Rattle.cf_lower_types.specs.declared.place.PlaceType.{PlaceType}
 use Rattle.cf_lower_types.specs.declared.place.PlaceType.TheVariants as place
-use Rattle.cf_lower_types.specs.Bare.{bare, fun_at, form_type, type_in, Refers, is_code as is_code_sort}
+use Rattle.cf_lower_types.specs.Bare.{bare, form_type, type_in, Refers, is_code as is_code_sort}
 use Rattle.cf_lowerable_types.specs.declared.types.Layer.{Layer}
 use Rattle.cf_lowerable_types.specs.declared.types.Layer.TheVariants as layer
 use Rattle.cf_lowerable_types.specs.Types.{layer_in, Told, IsLayer, IsBelow, is_of_kind}
