@@ -74,6 +74,9 @@ order_fits o x y f is e = subst (λ k. Fit k f) (sym is) (ap integer_of e)
 pub change_fits : (c : CodeChange) (o : Arith) (k to : Kind) (x : Kept) (f : Kind → Bool) → c ≡ change.Arithmetic o k to → f ≡ within to → Fit (changed_kept (change_of c) x) f
 change_fits c o k to x f is e = subst (λ d. Fit (changed_kept (change_of d) x) f) (sym is) (ap integer_of e)
 
+pub moved_fits : (c : CodeChange) (b : Bool) (x : Kept) (f : Kind → Bool) → c ≡ change.Moved b → Fit x f → Fit (changed_kept (change_of c) x) f
+moved_fits c b x f is e = subst (λ d. Fit (changed_kept (change_of d) x) f) (sym is) e
+
 pub decayed_fits : (k : Kept) (f : Kind → Bool) → Fit k f → Fit (decayed_kept k) f
 decayed_fits unknown f e = refl
 decayed_fits (integer_of g) f e = e

@@ -58,7 +58,6 @@ pub fn kinds_in(content: &Content) -> Kinds
 }
 
 /// The types of an integer that is read from a scalar, if it holds one.
-#[tactic(auto, using(crate::proofs::Giving::number_fits))]
 pub fn kinds_of_scalar(scalar: &Option<Scalar>) -> Kinds
     ensures { (tables : TablesOf) → restored (definition.of_sort (option_map (sort_in tables) scalar.now)) (has_kind result) ≡ definition.of_sort (option_map (sort_in tables) scalar.now) }
 {

@@ -29,7 +29,6 @@ pub fn held(x: &Scene<'_>, cs: &Contents, register: u32) -> Content
 }
 
 /// The types of the integer that is read at a place, if it is one.
-#[tactic(auto, using(crate::proofs::ActionKinds::place_read))]
 fn read_kinds(tables: &Tables<'_>, place: &Content) -> Kinds
     ensures { restored (definition.read_kept (known tables.now place.now)) (has_kind result) ≡ definition.read_kept (known tables.now place.now) }
 {
@@ -66,7 +65,6 @@ fn compares(op: Arith) -> bool
 }
 
 /// Those of what an operator gives: a comparison gives 0 or 1.
-#[tactic(auto, using(crate::proofs::Giving::comparison_fits, crate::proofs::Giving::operator_fits))]
 fn operated_kinds(op: Arith, kind: Kind) -> Kinds
     ensures { restored (definition.result_kept op kind) (has_kind result) ≡ definition.result_kept op kind }
 {
@@ -87,7 +85,7 @@ fn indexed_kinds(left: &Content, right: &Content) -> Kinds
 }
 
 /// Those of what an operator on pointers gives.
-#[tactic(auto, using(crate::proofs::Giving::difference_fits, crate::proofs::Giving::order_fits))]
+#[tactic(auto, using(crate::proofs::Giving::order_fits))]
 fn pointed_kinds(op: PointerOperator, left: &Content, right: &Content) -> Kinds
     ensures { (tables : TablesOf) → restored (definition.operated_kept op (known tables left.now) (known tables right.now)) (has_kind result) ≡ definition.operated_kept op (known tables left.now) (known tables right.now) }
 {
@@ -105,7 +103,6 @@ fn pointed_kinds(op: PointerOperator, left: &Content, right: &Content) -> Kinds
 }
 
 /// Those of a scalar that is changed.
-#[tactic(auto, using(crate::proofs::Giving::change_fits))]
 fn changed_kinds(change: Change, value: &Content) -> Kinds
     ensures { (tables : TablesOf) → restored (definition.changed_kept (change_of change) (known tables value.now)) (has_kind result) ≡ definition.changed_kept (change_of change) (known tables value.now) }
 {
@@ -131,7 +128,7 @@ fn constant_kinds(value: i64) -> Kinds
 }
 
 /// The types of the integer that an action gives, if it gives one.
-#[tactic(auto, using(crate::proofs::Giving::declared_fits, crate::proofs::ActionKinds::unary_given, crate::proofs::ActionKinds::truth_given, crate::proofs::ActionKinds::not_given, crate::proofs::ActionKinds::convert_given, crate::proofs::ActionKinds::call_given, crate::proofs::ActionKinds::pointed_given))]
+#[tactic(auto, using(crate::proofs::Giving::declared_fits))]
 fn given_kinds(x: &Scene<'_>, cs: &Contents, a: &Action) -> Kinds
     ensures { restored (definition.kept_by (locals_in x.now) (knowing x.now cs.now) (action_in x.now a.now)) (has_kind result) ≡ definition.kept_by (locals_in x.now) (knowing x.now cs.now) (action_in x.now a.now) }
 {
