@@ -10,8 +10,6 @@ use Rattle.cf_lowerable_ready.specs.declared.content.Place.{Place}
 use Rattle.cf_lowerable_ready.specs.declared.content.Place.TheVariants as place
 use Rattle.cf_lowerable_ready.specs.declared.content.Content.{Content}
 use Rattle.cf_lowerable_ready.specs.declared.content.Content.TheVariants as content
-use Rattle.cf_lowerable_ready.specs.declared.content.Stored.{Stored}
-use Rattle.cf_lowerable_ready.specs.declared.content.Stored.TheVariants as stored
 use Rattle.cf_lowerable_ready.specs.declared.contents.Contents.{Contents}
 
 -- the type of a place, with its const
@@ -27,17 +25,6 @@ known tables (content.Number ks) = Some (an_integer (has_kind ks))
 known tables (content.Place p) = Some (a_place (place_type tables p))
 known tables (content.Member t) = Some (a_member (type_of tables t))
 known tables (content.Object i t) = Some (an_object i (type_of tables t))
-
--- the same as it stands in a list
-abbrev pub held_in : Tables → Stored → Option Kept
-held_in tables stored.Unset = None
-held_in tables stored.NoValue = Some no_value
-held_in tables (stored.Number ks) = Some (an_integer (has_kind ks))
-held_in tables (stored.Of t) = Some (a_place (type_of tables t))
-held_in tables stored.Character = Some (a_place (integer Char))
-held_in tables (stored.Characters n) = Some (a_place (array (integer Char) n))
-held_in tables (stored.Member t) = Some (a_member (type_of tables t))
-held_in tables (stored.Object i t) = Some (an_object i (type_of tables t))
 
 -- ---- what is asked of one register
 
@@ -65,16 +52,16 @@ in_both x y = common (λ r. x) (λ r. y) 0
 
 -- ---- all registers
 
-abbrev pub stored_or : Option Stored → Stored
-stored_or None = stored.Unset
-stored_or (Some s) = s
+abbrev pub content_or : Option Content → Content
+content_or None = content.Unset
+content_or (Some c) = c
 
 -- nothing behind the last
-abbrev pub stored_at : List Stored → ℕ → Stored
-stored_at ss r = stored_or (slice_get ss r)
+abbrev pub content_at : List Content → ℕ → Content
+content_at cs r = content_or (slice_get cs r)
 
 abbrev pub keeping : Tables → Contents → Keeping
-keeping tables cs r = held_in tables (stored_at cs.held.items r)
+keeping tables cs r = known tables (content_at cs.held.items r)
 
 -- where a register holds something else, or nothing
 abbrev pub put : Keeping → Register → Option Kept → Keeping

@@ -1,12 +1,12 @@
 //! What a register holds.
 
-ghost use Rattle.std.specs.Prelude.{◌≡◌, Some};
+ghost use Rattle.std.specs.Prelude.{◌≡◌};
 ghost use Rattle.cf_core.specs.FromTypes.{Tables as TablesOf};
 ghost use Rattle.cf_core.specs.Types as types;
 ghost use Rattle.cf_lower_types.specs.Bare.{type_in};
 ghost use Rattle.cf_plain_kept.specs.Kept as definition;
 ghost use Rattle.cf_lowerable_ready.specs.Contents as spec;
-ghost use Rattle.cf_lowerable_ready.specs.Contents.{held_in, known};
+ghost use Rattle.cf_lowerable_ready.specs.Contents.{known};
 
 use cf_lower_types::PlaceType;
 use cf_lowerable_types::Kinds;
@@ -47,60 +47,6 @@ pub enum Content {
     Member(TyId),
     /// The object of the local of this number and type, which has no first value yet.
     Object(u32, TyId),
-}
-
-/// The same as it stands in a list, with no enum inside.
-#[derive(Clone, Copy, Debug, PartialEq, Eq)]
-pub enum Stored {
-    Unset,
-    NoValue,
-    Number(Kinds),
-    Of(TyId),
-    Character,
-    Characters(u64),
-    Member(TyId),
-    Object(u32, TyId),
-}
-
-/// A place as it stands in a list.
-fn stored_place(place: &Place) -> Stored
-    ensures { (tables : TablesOf) → held_in tables result ≡ Some (definition.a_place (spec.place_type tables place.now)) }
-{
-    match place {
-        Place::Of(id) => Stored::Of(*id),
-        Place::Character => Stored::Character,
-        Place::Characters(count) => Stored::Characters(*count),
-    }
-}
-
-/// What a register holds as it stands in a list.
-pub fn stored_of(content: &Content) -> Stored
-    ensures { (tables : TablesOf) → held_in tables result ≡ known tables content.now }
-{
-    match content {
-        Content::Unset => Stored::Unset,
-        Content::NoValue => Stored::NoValue,
-        Content::Number(kinds) => Stored::Number(*kinds),
-        Content::Place(place) => stored_place(place),
-        Content::Member(ty) => Stored::Member(*ty),
-        Content::Object(local, ty) => Stored::Object(*local, *ty),
-    }
-}
-
-/// What a register holds, from a list.
-pub fn content_of(stored: &Stored) -> Content
-    ensures { (tables : TablesOf) → known tables result ≡ held_in tables stored.now }
-{
-    match stored {
-        Stored::Unset => Content::Unset,
-        Stored::NoValue => Content::NoValue,
-        Stored::Number(kinds) => Content::Number(*kinds),
-        Stored::Of(id) => Content::Place(Place::Of(*id)),
-        Stored::Character => Content::Place(Place::Character),
-        Stored::Characters(count) => Content::Place(Place::Characters(*count)),
-        Stored::Member(ty) => Content::Member(*ty),
-        Stored::Object(local, ty) => Content::Object(*local, *ty),
-    }
 }
 
 /// Whether it is an integer.

@@ -3,10 +3,10 @@
 ghost use Rattle.std.specs.Prelude.{◌≡◌, ◌==◌, ◌<◌, ℕ, length, slice_set, IfOk, OnOk};
 ghost use Rattle.cf_core.specs.FromTypes.{Tables as TablesOf};
 ghost use Rattle.cf_plain_kept.specs.Kept as definition;
-ghost use Rattle.cf_lowerable_ready.specs.Contents.{keeping, known, put as put_in, stored_at, without};
+ghost use Rattle.cf_lowerable_ready.specs.Contents.{content_at, keeping, known, put as put_in, without};
 
-use crate::content::{Content, Stored, content_of, stored_of};
-use crate::meeting::both_stored;
+use crate::content::Content;
+use crate::meeting::both;
 use cf_base::Memory;
 use cf_lower_types::Tables;
 use std::alloc::Global;
@@ -14,36 +14,25 @@ use std::alloc::Global;
 /// What each register holds, by its number; nothing behind the last.
 #[derive(Drop)]
 pub struct Contents {
-    held: Vec<Stored>,
+    held: Vec<Content>,
 }
 
 /// What stands at an index; nothing behind the last.
-fn at(all: &[Stored], index: usize) -> Stored
-    ensures { result ≡ stored_at all.now index }
+fn at(all: &[Content], index: usize) -> Content
+    ensures { result ≡ content_at all.now index }
 {
     match all.get(index) {
-        Some(stored) => *stored,
-        None => Stored::Unset,
+        Some(content) => *content,
+        None => Content::Unset,
     }
-}
-
-/// Makes room up to an index, with nothing held there.
-fn reach(all: &mut Vec<Stored>, index: usize) -> Result<(), Memory>
-    ensures same { (q : ℕ) → OnOk result (stored_at all.new.items q ≡ stored_at all.old.items q) }
-    ensures long { OnOk result (index < length all.new.items) }
-{
-    while all.len() <= index {
-        all.push(Stored::Unset)?;
-    }
-    Ok(())
 }
 
 /// Something else is held at an index.
-fn put(all: &mut Vec<Stored>, index: usize, stored: Stored)
+fn put(all: &mut Vec<Content>, index: usize, content: Content)
     requires { index < length all.old.items }
-    ensures { all.new.items ≡ slice_set all.old.items index stored }
+    ensures { all.new.items ≡ slice_set all.old.items index content }
 {
-    all[index] = stored;
+    all[index] = content;
 }
 
 impl Contents {
@@ -61,8 +50,7 @@ impl Contents {
     pub fn get(&self, register: u32) -> Content
         ensures { (tables : TablesOf) → known tables result ≡ keeping tables self.now register }
     {
-        let stored = at(self.held.as_slice(), register as usize);
-        content_of(&stored)
+        at(self.held.as_slice(), register as usize)
     }
 
     /// The same in a list of its own.
@@ -75,14 +63,24 @@ impl Contents {
         })
     }
 
+    /// Makes room up to an index, with nothing held there.
+    fn reach(&mut self, index: usize) -> Result<(), Memory>
+        ensures same { (q : ℕ) → OnOk result (content_at self.new.held.items q ≡ content_at self.old.held.items q) }
+        ensures long { OnOk result (index < length self.new.held.items) }
+    {
+        while self.held.as_slice().len() <= index {
+            self.held.push(Content::Unset)?;
+        }
+        Ok(())
+    }
+
     /// A register holds this from now on.
     pub fn keep(&mut self, register: u32, content: Content) -> Result<(), Memory>
         ensures { (tables : TablesOf) → OnOk result (keeping tables self.new ≡ put_in (keeping tables self.old) register (known tables content)) }
     {
         let index = register as usize;
-        reach(&mut self.held, index)?;
-        let stored = stored_of(&content);
-        put(&mut self.held, index, stored);
+        self.reach(index)?;
+        put(&mut self.held, index, content);
         Ok(())
     }
 
@@ -93,7 +91,7 @@ impl Contents {
     {
         let index = register as usize;
         if index < self.held.len() {
-            put(&mut self.held, index, Stored::Unset);
+            put(&mut self.held, index, Content::Unset);
         }
     }
 
@@ -112,8 +110,8 @@ impl Contents {
         for index in 0..self.held.len() {
             let here = at(self.held.as_slice(), index);
             let there = at(other.held.as_slice(), index);
-            let stored = both_stored(tables, &here, &there)?;
-            put(&mut self.held, index, stored);
+            let content = both(tables, &here, &there)?;
+            put(&mut self.held, index, content);
         }
         Ok(())
     }

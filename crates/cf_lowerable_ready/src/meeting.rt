@@ -4,9 +4,9 @@ ghost use Rattle.std.specs.Prelude.{◌≡◌, Some, IfOk};
 ghost use Rattle.cf_core.specs.FromTypes.{Tables as TablesOf, type_of};
 ghost use Rattle.cf_plain_kept.specs.Kept as definition;
 ghost use Rattle.cf_lowerable_types.specs.Kinds.{has_kind};
-ghost use Rattle.cf_lowerable_ready.specs.Contents.{held_in, in_both, known, place_type};
+ghost use Rattle.cf_lowerable_ready.specs.Contents.{in_both, known, place_type};
 
-use crate::content::{Content, Place, Stored, content_of, stored_of};
+use crate::content::{Content, Place};
 use crate::takes::same_but_const;
 use cf_base::Memory;
 use cf_lower_same::same_bare;
@@ -36,17 +36,6 @@ pub fn both(tables: &Tables<'_>, a: &Content, b: &Content) -> Result<Content, Me
             Ok(made)
         }
     }
-}
-
-/// The same as it stands in lists.
-pub fn both_stored(tables: &Tables<'_>, a: &Stored, b: &Stored) -> Result<Stored, Memory>
-    ensures { IfOk result (λ s. held_in tables.now s ≡ in_both (held_in tables.now a.now) (held_in tables.now b.now)) }
-{
-    let here = content_of(a);
-    let there = content_of(b);
-    let content = both(tables, &here, &there)?;
-    let made = stored_of(&content);
-    Ok(made)
 }
 
 /// Where the first is no value.

@@ -1,6 +1,6 @@
 use Rattle.std.proofs.Common.{◌≡◌, ◌<◌, List, length, ap, ◌∙◌, arith}
-use Rattle.cf_lowerable_ready.specs.declared.content.Stored.{Stored}
-use Rattle.cf_lowerable_ready.specs.Contents.{stored_at}
+use Rattle.cf_lowerable_ready.specs.declared.content.Content.{Content}
+use Rattle.cf_lowerable_ready.specs.Contents.{content_at}
 use Rattle.cf_lowerable_ready.proofs.Keepings.{met_all, met_long, met_more}
 use Rattle.cf_lowerable_ready.proofs.contents.Contents.meet.Goals as goal
 
@@ -13,10 +13,10 @@ loop-index-preserved c =
     let i = c.loop-index.index in
     let within : i < length here = omega (arith, c.loop-index-test.true, c.len-index-end.ensures, c.loop-index.invariant.long) in
     record {
-      long = met_long (length first) i here c.put.new.all.items c.in_ok-stored.stored c.loop-index.invariant.long c.put.ensures;
-      met = met_more tables first second i here c.put.new.all.items c.in_ok-stored.stored c.at-here.result c.at-there.result c.loop-index.invariant.met within
-          (c.at-here.ensures ∙ ap (λ (l : List Stored). stored_at l i) c.as_slice.ensures.value)
-          (c.at-there.ensures ∙ ap (λ (l : List Stored). stored_at l i) c.as_slice-in-loop-index.ensures.value) c.in_ok-stored.ensures c.put.ensures;
+      long = met_long (length first) i here c.put.new.all.items c.in_ok-content.content c.loop-index.invariant.long c.put.ensures;
+      met = met_more tables first second i here c.put.new.all.items c.in_ok-content.content c.at-here.result c.at-there.result c.loop-index.invariant.met within
+          (c.at-here.ensures ∙ ap (λ (l : List Content). content_at l i) c.as_slice.ensures.value)
+          (c.at-there.ensures ∙ ap (λ (l : List Content). content_at l i) c.as_slice-in-loop-index.ensures.value) c.in_ok-content.ensures c.put.ensures;
     }
 
 pub returns : goal.returns

@@ -1,9 +1,0 @@
-use Rattle.std.proofs.Common.{◌≡◌, ℕ, ◌+◌, ◌-◌, length}
-use Rattle.cf_lowerable_ready.specs.Contents.{stored_at}
-use Rattle.cf_lowerable_ready.proofs.contents.reach.Given as goal
-
-abbrev pub invariant-loop-all : goal.invariant-loop-all
-invariant-loop-all l = (q : ℕ) → stored_at l.all.items q ≡ stored_at l.initial.all.items q
-
-abbrev pub decreases-loop-all : goal.decreases-loop-all
-decreases-loop-all l = l.index + 1 - length l.all.items
