@@ -1,4 +1,4 @@
-ghost use Rattle.std.specs.Prelude.{◌≡◌, ◌∷◌, ◌<◌, ◌≤◌, ◌-◌, [], drop, length, OnOk};
+ghost use Rattle.std.specs.Prelude.{◌≡◌, ◌∷◌, ◌<◌, ◌≤◌, ◌-◌, [], drop, length, OnOk, OnErr};
 ghost use Rattle.cf_name_places.specs.Places.{last_place};
 
 use crate::latest::{enter, latest, put_back};
@@ -59,7 +59,8 @@ impl<'a> Places<'a> {
 
     /// Puts a name in front of all others.
     pub fn add(&mut self, name: &'a [u8]) -> Result<(), Memory>
-        ensures { OnOk result (self.new ≡ name.now ∷ self.old) }
+        ensures ok { OnOk result (self.new ≡ name.now ∷ self.old) }
+        ensures err { OnErr result (self.new ≡ self.old) }
     {
         self.list.reserve(1)?;
         let before = latest(&self.last, name);
