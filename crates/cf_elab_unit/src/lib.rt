@@ -10,4 +10,4 @@ pub use body::{
     shape_of, statement, statements, words,
 };
 pub use definitions::definition;
-pub use unit::{Elaborated, elab};
+pub use unit::elab;

@@ -1,7 +1,5 @@
 pub mod Causes
 pub mod MadePrograms
 pub mod Pieces
-pub mod Readings
 pub mod Runs
-pub mod Units
 pub mod WordLists

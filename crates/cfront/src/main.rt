@@ -13,6 +13,7 @@ mod last_line;
 mod outcome;
 mod position;
 mod running;
+mod starting;
 mod streams;
 #[cfg(test)]
 mod tests;
