@@ -9,7 +9,7 @@ use Rattle.cf_frame.specs.Bound.{frames_of}
 use Rattle.cf_first.specs.First.{First, Refusal, breaks, passes, not_built}
 use Rattle.cf_sequence_built.specs.Unbuilt.{in_file}
 use Rattle.cf_compile.specs.Means.{KeepsMeaning}
-use Rattle.cf_one_file.specs.Covered.{Covered}
+use Rattle.cf_compile.specs.Tests.{Tested}
 use Rattle.cf_compile.specs.declared.compiled.Compiled.{Compiled}
 use Rattle.cf_compile.specs.declared.fault.Fault.{Fault}
 use Rattle.cf_compile.specs.declared.fault.Fault.TheVariants as fault
@@ -33,12 +33,12 @@ abbrev pub frame_limit : Limit
 frame_limit = record { bound = bound.Frame; most = most_frame }
 
 -- A file is refused where it has no core; then at the first form of its core that sequencing does not take; then where the frame of a function may pass the limit; and then
--- where what lowering asks does not hold of it.
+-- where a test of what lowering asks fails.
 pub data Refuses (bytes : List ℕ) : Refusal → Type 0 where
   has_no_core : (r : Refusal) → First bytes (Err r) → Refuses bytes r
   is_not_sequenced : (core : CoreUnit) (at : ℕ) → First bytes (Ok core) → in_file core ≡ Some at → Refuses bytes (breaks (unbuilt_at at))
   passes_frame : (core : CoreUnit) → First bytes (Ok core) → in_file core ≡ None → most_frame < frame_bound core → Refuses bytes (passes frame_limit)
-  is_not_covered : (core : CoreUnit) → First bytes (Ok core) → in_file core ≡ None → frame_bound core ≤ most_frame → (Covered core → ⊥)
+  is_not_lowered : (core : CoreUnit) → First bytes (Ok core) → in_file core ≡ None → frame_bound core ≤ most_frame → (Tested core → ⊥)
       → Refuses bytes (breaks not_built)
 
 -- the file has a core, and this is a unit of it with its text; its functions' frames have this bound

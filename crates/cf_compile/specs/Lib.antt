@@ -1,2 +1,4 @@
 pub mod Compiles
 pub mod Means
+pub mod Steps
+pub mod Tests

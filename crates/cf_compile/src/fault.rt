@@ -1,4 +1,8 @@
-use cf_base::{Broken, Limit, Memory};
+ghost use Rattle.std.specs.Prelude.{◌≡◌};
+ghost use Rattle.cf_compile.specs.Compiles as spec;
+ghost use Rattle.cf_compile.specs.declared.fault.Fault.TheVariants as fault;
+
+use cf_base::{Broken, Limit, Memory, Rule};
 use thiserror::Error;
 
 /// Why a file is not translated.
@@ -14,11 +18,18 @@ pub enum Fault {
     Memory,
 }
 
-impl From<Memory> for Fault {
-    ghost use Rattle.std.specs.Prelude.{◌≡◌};
-    ghost use Rattle.cf_compile.specs.declared.fault.Fault.TheVariants.{Memory};
+/// A form that is not built, at this place.
+pub fn unbuilt_at(at: u32) -> Fault
+    ensures { result ≡ fault.Broken (spec.unbuilt_at at) }
+{
+    Fault::Broken(Broken {
+        rule: Rule::new(48),
+        at,
+    })
+}
 
-    ghost from_gives = { λ _ e. e ≡ Memory };
+impl From<Memory> for Fault {
+    ghost from_gives = { λ _ e. e ≡ fault.Memory };
 
     fn from(_error: Memory) -> Fault {
         Fault::Memory

@@ -8,7 +8,7 @@ use crate::position::Position;
 use crate::words::text_name_of;
 use cc_whole::{CProgram, CUnit};
 use cc_whole_link::LinkRule;
-use cc_whole_linker::{BrokenRule, LinkErr};
+use cc_whole_linker::LinkErr;
 use cf_base::{Bound, Broken, Files, Limit, ReadErr, WriteErr};
 use cf_compile::{Compiled, Fault};
 use std::alloc::Global;
@@ -96,12 +96,10 @@ fn linked(alloc: Global, unit: CUnit) -> Result<CProgram, Stop>
     units.push(unit)?;
     match cc_whole_linker::link(alloc, units.as_slice()) {
         Ok(program) => Ok(program),
-        Err(LinkErr::Refused(BrokenRule { rule, name })) => {
-            Err(Stop::Answer(Answer::plain(Outcome::LinkRefused {
-                rule: rule_number(rule),
-                name,
-            })))
-        }
+        Err(LinkErr::Refused(broken)) => Err(Stop::Answer(Answer::plain(Outcome::LinkRefused {
+            rule: rule_number(broken.rule),
+            name: broken.name,
+        }))),
         Err(LinkErr::Limit(limit)) => {
             Err(Stop::Answer(Answer::plain(Outcome::Limit { file: None, limit })))
         }

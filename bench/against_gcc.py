@@ -1,0 +1,75 @@
+"""Small programs of the language, run by `go` and as g++ builds them for 32 bits, with their outputs and statuses compared.
+
+    python3 bench/against_gcc.py [NAME..]
+
+The programs are those of `programs/` and of `examples/`; NAMEs leave the others out. Where NAME.out and NAME.status stand beside a program, these are what is wanted, and g++
+is not asked. The variable CFRONT names another program than `./cfront`. Ends with 1 where a program ends otherwise than wanted; a refusal is only shown.
+"""
+import glob
+import os
+import shutil
+import sys
+import tempfile
+
+from measure import LAUNCHER, TOP
+from native import Native, contents, run
+
+CFRONT = os.environ.get("CFRONT", LAUNCHER)
+FLAGS = ["-std=gnu++98", "-fpermissive", "-O0", "-fno-exceptions", "-fno-threadsafe-statics"]
+
+
+def sources(names):
+    """The programs by their names."""
+    found = sorted(glob.glob(os.path.join(TOP, "bench", "programs", "*.C")) + glob.glob(os.path.join(TOP, "examples", "*.C")))
+    return [path for path in found if not names or os.path.basename(path)[:-2] in names]
+
+
+def wanted(native, path, given):
+    """What the program is to do: status and output, or why nothing is known of it."""
+    base = path[:-2]
+    if os.path.exists(base + ".status"):
+        return int(contents(base + ".status")), contents(base + ".out"), ""
+    source = os.path.join(native.folder, "a.cc")
+    shutil.copy(path, source)
+    with open(source, "r+", encoding="latin-1") as file:
+        text = file.read()
+        file.seek(0)
+        file.write('extern "C" int putchar(int), getchar(); extern "C" void exit(int);\n#line 1\n' + text)
+    program, said = native.build(source, "g++", FLAGS)
+    if program is None:
+        return None, b"", "g++: " + said.strip().splitlines()[0]
+    status, output, _ = run([program], given)
+    return status, output, "" if status is not None and status >= 0 else f"g++'s program ended by signal {status}"
+
+
+def judged(native, path):
+    """A word for how a program did, and what is to be said of it."""
+    given = contents(path[:-2] + ".in")
+    name = os.path.basename(path)
+    with tempfile.TemporaryDirectory() as folder:
+        shutil.copy(path, folder)
+        status, output, line = run([CFRONT, "go", name], given, folder=folder)
+    if not line.startswith("cfront: ended "):
+        return "stopped", line or f"status {status}"
+    want, out, why = wanted(native, path, given)
+    if why:
+        return "unknown", why
+    if (status, output) == (want, out):
+        return "agrees", f"status {status}, {len(output)} bytes"
+    return "DIFFERS", f"status {status} for {want}, output {output[-60:]!r} for {out[-60:]!r}"
+
+
+def main():
+    counts = {}
+    with tempfile.TemporaryDirectory() as folder:
+        native = Native(folder)
+        for path in sources(sys.argv[1:]):
+            word, said = judged(native, path)
+            counts[word] = counts.get(word, 0) + 1
+            print(f"{os.path.relpath(path, TOP):36} {word:8} {said}", flush=True)
+    print(", ".join(f"{count} {word}" for word, count in sorted(counts.items())))
+    return 1 if counts.get("DIFFERS") else 0
+
+
+if __name__ == "__main__":
+    sys.exit(main())

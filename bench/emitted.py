@@ -1,0 +1,59 @@
+"""The C text of each program, compiled by gcc for 32 bits behind a prelude of a few lines: same output and same status as `go`.
+
+    python3 bench/emitted.py [NAME..]
+
+The programs are those of `examples/` and of `programs/`; NAMEs leave the others out. Ends with 1 where one does otherwise.
+"""
+import os
+import shutil
+import sys
+import tempfile
+
+from against_gcc import CFRONT, sources
+from measure import TOP
+from native import Native, contents, run
+
+PRELUDE = """\
+typedef void (*__f)(void);
+struct __e { int d; __f f; };
+int __main(void);
+int main(void) { return __main(); }
+"""
+FLAGS = ["-std=gnu89", "-O0"]
+
+
+def judged(native, path):
+    """A word for how the text of a program did, and what is to be said of it."""
+    given = contents(path[:-2] + ".in")
+    name = os.path.basename(path)
+    with tempfile.TemporaryDirectory() as folder:
+        shutil.copy(path, folder)
+        status, output, line = run([CFRONT, "go", name], given, folder=folder)
+        if not line.startswith("cfront: ended "):
+            return "stopped", line or f"status {status}"
+        source = os.path.join(folder, "text.c")
+        with open(source, "wb") as file:
+            file.write(PRELUDE.encode("ascii") + contents(os.path.join(folder, name + ".c")))
+        program, said = native.build(source, "gcc", FLAGS)
+    if program is None:
+        return "DIFFERS", "gcc: " + said.strip().splitlines()[0]
+    other, put, _ = run([program], given)
+    if (status, output) == (other, put):
+        return "agrees", f"status {status}, {len(output)} bytes"
+    return "DIFFERS", f"status {other} for {status}, output {put[-60:]!r} for {output[-60:]!r}"
+
+
+def main():
+    counts = {}
+    with tempfile.TemporaryDirectory() as folder:
+        native = Native(folder)
+        for path in sources(sys.argv[1:]):
+            word, said = judged(native, path)
+            counts[word] = counts.get(word, 0) + 1
+            print(f"{os.path.relpath(path, TOP):36} {word:8} {said}", flush=True)
+    print(", ".join(f"{count} {word}" for word, count in sorted(counts.items())))
+    return 1 if counts.get("DIFFERS") else 0
+
+
+if __name__ == "__main__":
+    sys.exit(main())
