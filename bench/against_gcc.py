@@ -2,8 +2,8 @@
 
     python3 bench/against_gcc.py [NAME..]
 
-The programs are those of `programs/` and of `examples/`; NAMEs leave the others out. Where NAME.out and NAME.status stand beside a program, these are what is wanted, and g++
-is not asked. The variable CFRONT names another program than `./cfront`. Ends with 1 where a program ends otherwise than wanted; a refusal is only shown.
+The programs are those of `programs/` and of `examples/`; NAMEs leave the others out. Where NAME.want stands beside a program, its first line is the last line that is wanted
+of `go`, and the rest the output, and g++ is not asked. The variable CFRONT names another program than `./cfront`. Ends with 1 where a program ends otherwise than wanted; a refusal is only shown.
 """
 import glob
 import os
@@ -26,9 +26,6 @@ def sources(names):
 
 def wanted(native, path, given):
     """What the program is to do: status and output, or why nothing is known of it."""
-    base = path[:-2]
-    if os.path.exists(base + ".status"):
-        return int(contents(base + ".status")), contents(base + ".out"), ""
     source = os.path.join(native.folder, "a.cc")
     shutil.copy(path, source)
     with open(source, "r+", encoding="latin-1") as file:
@@ -49,6 +46,11 @@ def judged(native, path):
     with tempfile.TemporaryDirectory() as folder:
         shutil.copy(path, folder)
         status, output, line = run([CFRONT, "go", name], given, folder=folder)
+    if os.path.exists(path[:-2] + ".want"):
+        want, _, out = contents(path[:-2] + ".want").partition(b"\n")
+        if (line.encode(), output) == (want, out):
+            return "agrees", line
+        return "DIFFERS", f"{line!r} for {want!r}, output {output[-60:]!r} for {out[-60:]!r}"
     if not line.startswith("cfront: ended "):
         return "stopped", line or f"status {status}"
     want, out, why = wanted(native, path, given)

@@ -22,6 +22,8 @@ enum Color { Red, Green = 5, Blue, Cyan = Green * 2 + 1, Black = -1 };
 enum { Small = 3, Large = Small << 4 };
 enum Flag { A = 1, B = 2, C = 4 } flags = B;
 
+enum Local { P, Q = 5, R };
+
 int cells[Small];
 
 int value(Color c)
@@ -38,7 +40,6 @@ Color next(Color c) { return c == Blue ? Red : Color(c + 1); }
 
 int main()
 {
-    enum Local { P, Q = 5, R };
     Local e = R;
     Color c = Green;
     line(Blue);

@@ -50,7 +50,7 @@ int main()
         int n = x--;
         line(n);
     }
-    enum x { y = 20 };
+    enum { y = 20 };
     line(x + y);
     return x;
 }

@@ -21,6 +21,7 @@ void line(long n)
 int a[3][5];
 char *p;
 short f(char);
+enum E { X };
 
 int main()
 {
@@ -46,7 +47,6 @@ int main()
     line(sizeof c++);
     line(c);
     line(sizeof(short) * 3 - 7 > 0);
-    enum E { X };
     line(sizeof(E) + sizeof X);
     return sizeof(a) / sizeof(a[0]);
 }

@@ -49,8 +49,16 @@ covered core tested left =
     let l = tested.looked in
     record {
       lowers = record {
-        types = l.types; operators = l.operators; names = left.names; statics = left.statics; texts = l.texts; literals = tested.literals;
-        labels = l.labels; counts = l.counts; shared = l.shared; ready = left.ready;
+        types = l.types;
+        operators = l.operators;
+        names = left.names;
+        statics = left.statics;
+        texts = l.texts;
+        literals = tested.literals;
+        labels = l.labels;
+        counts = l.counts;
+        shared = l.shared;
+        ready = left.ready;
       };
       left = record { used = tested.used; starts = left.starts; opened = left.opened; places = left.places };
     }
@@ -58,7 +66,12 @@ covered core tested left =
 pub untested : (core : CoreUnit) → Covered core → Untested core
 untested core c =
     record {
-      names = c.lowers.names; statics = c.lowers.statics; ready = c.lowers.ready; starts = c.left.starts; opened = c.left.opened; places = c.left.places;
+      names = c.lowers.names;
+      statics = c.lowers.statics;
+      ready = c.lowers.ready;
+      starts = c.left.starts;
+      opened = c.left.opened;
+      places = c.left.places;
     }
 
 pub core-fails : TestsAreLooks → (core : CoreUnit) → core_passes (file_of core) ≡ false → Tested core → ⊥

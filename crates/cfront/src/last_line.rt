@@ -51,7 +51,10 @@ pub fn line_pieces<'a>(
                 digits.first.format(act_number(*act)),
             )
         }
-        Outcome::Frames { product } => number_line(b"cfront: frames ", digits.first.format(*product)),
+        Outcome::Frames { product } => number_line(
+            b"cfront: frames ",
+            digits.first.format(*product),
+        ),
         Outcome::Usage => plain_line(b"usage: cfront go|translate|layout|link|run|name|sample\n"),
         Outcome::FileFault => plain_line(b"cfront: file fault\n"),
         Outcome::SourceFault => plain_line(b"cfront: source fault\n"),
