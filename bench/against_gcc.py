@@ -2,8 +2,9 @@
 
     python3 bench/against_gcc.py [NAME..]
 
-The programs are those of `programs/` and of `examples/`; NAMEs leave the others out. Where NAME.want stands beside a program, its first line is the last line that is wanted
-of `go`, and the rest the output, and g++ is not asked. The variable CFRONT names another program than `./cfront`. Ends with 1 where a program ends otherwise than wanted; a refusal is only shown.
+The programs are those of `programs/` and of `examples/`; NAMEs leave the others out. Where NAME.want stands beside a program, its first
+line is the last line that is wanted of `go`, and the rest the output, and g++ is not asked; so it is with what `examples/expected` lists. The variable
+CFRONT names another program than `./cfront`. Ends with 1 where a program ends otherwise than wanted; what stops `go` elsewhere is only shown.
 """
 import glob
 import os
@@ -39,6 +40,16 @@ def wanted(native, path, given):
     return status, output, "" if status is not None and status >= 0 else f"g++'s program ended by signal {status}"
 
 
+def told(path):
+    """The last line and the output that are written down for a program, or None."""
+    if os.path.exists(path[:-2] + ".want"):
+        line, _, out = contents(path[:-2] + ".want").partition(b"\n")
+        return line, out
+    listed = contents(os.path.join(os.path.dirname(path), "expected")).splitlines()
+    lines = [words[2] for words in (entry.split(b" ", 2) for entry in listed) if words[0] == os.path.basename(path)[:-2].encode()]
+    return (lines[0], contents(path[:-2] + ".out")) if lines else None
+
+
 def judged(native, path):
     """A word for how a program did, and what is to be said of it."""
     given = contents(path[:-2] + ".in")
@@ -46,11 +57,11 @@ def judged(native, path):
     with tempfile.TemporaryDirectory() as folder:
         shutil.copy(path, folder)
         status, output, line = run([CFRONT, "go", name], given, folder=folder)
-    if os.path.exists(path[:-2] + ".want"):
-        want, _, out = contents(path[:-2] + ".want").partition(b"\n")
-        if (line.encode(), output) == (want, out):
+    known = told(path)
+    if known is not None:
+        if (line.encode(), output) == known:
             return "agrees", line
-        return "DIFFERS", f"{line!r} for {want!r}, output {output[-60:]!r} for {out[-60:]!r}"
+        return "DIFFERS", f"{line!r} for {known[0]!r}, output {output[-60:]!r} for {known[1][-60:]!r}"
     if not line.startswith("cfront: ended "):
         return "stopped", line or f"status {status}"
     want, out, why = wanted(native, path, given)

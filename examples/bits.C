@@ -1,5 +1,4 @@
 // Bits of unsigned numbers: counted, reversed, rotated, and put in binary.
-extern "C" int putchar(int);
 
 void put_binary(unsigned long n)
 {

@@ -1,7 +1,4 @@
 // A calculator: lines with numbers, + - * / % and brackets are read, and the value of each is put.
-extern "C" int putchar(int);
-extern "C" int getchar();
-extern "C" void exit(int);
 
 static int next;
 static int line = 1;
@@ -48,7 +45,7 @@ long number()
         refuse("a number is missing");
     long n = 0;
     for (; next >= '0' && next <= '9'; step())
-        n = n * 10 + next - '0';
+        n = n * 10 + (next - '0');
     return n;
 }
 

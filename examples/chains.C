@@ -1,5 +1,4 @@
 // The longest chain n, n/2 or 3n+1, .. , 1 that begins below 1000; lengths that are known are kept.
-extern "C" int putchar(int);
 
 const int most = 1000;
 static short lengths[most];

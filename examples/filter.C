@@ -1,6 +1,4 @@
 // A filter of text: blanks are put once, each line begins with its number and each word with a capital.
-extern "C" int putchar(int);
-extern "C" int getchar();
 
 int is_letter(int c) { return c >= 'a' && c <= 'z' || c >= 'A' && c <= 'Z'; }
 

@@ -1,5 +1,4 @@
 // Strings are reversed in place by two pointers that meet.
-extern "C" int putchar(int);
 
 static char palindrome[] = "Madam, I'm Adam";
 static char alphabet[] = "abcdefghijklmnopqrstuvwxyz";

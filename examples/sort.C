@@ -1,5 +1,4 @@
 // An array is sorted by quicksort over pointers to its elements.
-extern "C" int putchar(int);
 
 static int numbers[12] = { 31, -4, 15, 9, 2653, -58, 9, 79, 0, 3238, -462, 6 };
 

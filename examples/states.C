@@ -1,6 +1,4 @@
 // Comments are taken out of a program by a state machine: a state, a byte, a `switch`.
-extern "C" int putchar(int);
-extern "C" int getchar();
 
 enum State { Code, Slash, Line, Block, Star, Quoted, Escaped };
 
@@ -22,11 +20,17 @@ int main()
         case Slash:
             if (c == '/' || c == '*') {
                 comments++;
-                state = c == '/' ? Line : Block;
+                if (c == '/')
+                    state = Line;
+                else
+                    state = Block;
                 continue;
             }
             putchar('/');
-            state = c == '"' ? Quoted : Code;
+            if (c == '"')
+                state = Quoted;
+            else
+                state = Code;
             break;
         case Line:
             if (c != '\n')

@@ -1,5 +1,4 @@
 // A table of pointers to functions, and one that takes such a pointer.
-extern "C" int putchar(int);
 
 int add(int a, int b) { return a + b; }
 int subtract(int a, int b) { return a - b; }

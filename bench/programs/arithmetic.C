@@ -1,5 +1,4 @@
 // Integer operators on int, division and remainder towards zero.
-extern "C" int putchar(int);
 
 void put(long n)
 {

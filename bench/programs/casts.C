@@ -1,5 +1,4 @@
 // Casts in both forms.
-extern "C" int putchar(int);
 
 void put(long n)
 {

@@ -1,5 +1,4 @@
 // The comma operator, and for with several parts.
-extern "C" int putchar(int);
 
 void put(long n)
 {

@@ -1,5 +1,4 @@
 // Assignment with operators, steps before and behind.
-extern "C" int putchar(int);
 
 void put(long n)
 {

@@ -1,5 +1,4 @@
 // Conditions of every scalar type.
-extern "C" int putchar(int);
 
 void put(long n)
 {

@@ -1,5 +1,4 @@
 // Const objects, bounds by const objects, pointers to const.
-extern "C" int putchar(int);
 
 void put(long n)
 {

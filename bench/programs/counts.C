@@ -1,5 +1,4 @@
 // Lines, words and bytes of the input.
-extern "C" int putchar(int);
 
 void put(long n)
 {
@@ -17,8 +16,6 @@ void line(long n)
     put(n);
     putchar(10);
 }
-
-extern "C" int getchar();
 
 int main()
 {

@@ -1,5 +1,4 @@
 // Statements that are never reached.
-extern "C" int putchar(int);
 
 void put(long n)
 {

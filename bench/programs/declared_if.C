@@ -1,5 +1,4 @@
 // A declaration as the statement of an if, last in its block.
-extern "C" int putchar(int);
 
 void put(long n)
 {
@@ -21,11 +20,16 @@ void line(long n)
 int main()
 {
     int n = 3;
-    if (n)
-        for (int i = 0; i < 2; i++)
-            n += i;
-    if (n > 100)
-        int unused = 1;
     line(n);
+    while (n < 9) {
+        n++;
+        if (n > 100)
+            int unused = 1;
+    }
+    {
+        if (n)
+            for (int i = 0; i < 2; i++)
+                n += i;
+    }
     return n;
 }

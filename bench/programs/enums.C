@@ -1,5 +1,4 @@
 // Enumerations: values, conversions, as bounds and labels.
-extern "C" int putchar(int);
 
 void put(long n)
 {
@@ -36,7 +35,7 @@ int value(Color c)
     }
 }
 
-Color next(Color c) { return c == Blue ? Red : Color(c + 1); }
+Color next(Color c) { return Color(c == Blue ? Red : c + 1); }
 
 int main()
 {

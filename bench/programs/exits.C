@@ -1,5 +1,4 @@
 // exit from inside of calls.
-extern "C" int putchar(int);
 
 void put(long n)
 {
@@ -17,8 +16,6 @@ void line(long n)
     put(n);
     putchar(10);
 }
-
-extern "C" void exit(int);
 
 int deep(int n)
 {

@@ -1,5 +1,4 @@
 // Factorials of many digits in an array.
-extern "C" int putchar(int);
 
 void put(long n)
 {

@@ -1,5 +1,4 @@
 // main ends without return.
-extern "C" int putchar(int);
 
 void put(long n)
 {

@@ -1,5 +1,4 @@
 // A name in the head of a for lives to the end of the block around it, as in 1990; no compiler of today agrees.
-extern "C" int putchar(int);
 
 void put(long n)
 {

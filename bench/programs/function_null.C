@@ -1,5 +1,4 @@
 // A pointer to a function is compared with 0.
-extern "C" int putchar(int);
 
 void put(long n)
 {

@@ -1,5 +1,4 @@
 // Pointers to functions.
-extern "C" int putchar(int);
 
 void put(long n)
 {

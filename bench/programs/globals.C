@@ -1,5 +1,4 @@
 // Objects of the file: zero, constants, addresses.
-extern "C" int putchar(int);
 
 void put(long n)
 {

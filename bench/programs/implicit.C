@@ -1,5 +1,4 @@
 // A function without a type gives an int.
-extern "C" int putchar(int);
 
 twice(int n) { return n * 2; }
 static thrice(int n) { return n * 3; }

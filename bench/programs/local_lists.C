@@ -1,5 +1,4 @@
 // Lists and strings that start local arrays.
-extern "C" int putchar(int);
 
 void put(long n)
 {

@@ -1,5 +1,4 @@
 // Local lists of functions and of pointers.
-extern "C" int putchar(int);
 
 void put(long n)
 {

@@ -1,5 +1,4 @@
 // What && || and ?: evaluate.
-extern "C" int putchar(int);
 
 void put(long n)
 {

@@ -1,5 +1,4 @@
 // else if and conditional chains.
-extern "C" int putchar(int);
 
 void put(long n)
 {

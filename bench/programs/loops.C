@@ -1,5 +1,4 @@
 // while, do and for with break and continue, nested.
-extern "C" int putchar(int);
 
 void put(long n)
 {

@@ -1,5 +1,4 @@
 // Products of matrices, powers of one.
-extern "C" int putchar(int);
 
 void put(long n)
 {
@@ -24,12 +23,13 @@ void multiply(Matrix a, const Matrix b)
 {
     Matrix c;
     int i;
-    for (i = 0; i < 2; i++)
+    for (i = 0; i < 2; i++) {
         for (int j = 0; j < 2; j++) {
             c[i][j] = 0;
             for (int k = 0; k < 2; k++)
                 c[i][j] += a[i][k] * b[k][j];
         }
+    }
     for (i = 0; i < 2; i++)
         for (int j = 0; j < 2; j++)
             a[i][j] = c[i][j];

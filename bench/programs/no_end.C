@@ -1,1 +1,1 @@
-int main(){while(1);return 0;}
+int main(){for(;;);return 0;}

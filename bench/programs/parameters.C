@@ -1,5 +1,4 @@
 // Many parameters, arrays and narrow types as parameters.
-extern "C" int putchar(int);
 
 void put(long n)
 {

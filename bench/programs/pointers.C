@@ -1,5 +1,4 @@
 // Arithmetic of pointers.
-extern "C" int putchar(int);
 
 void put(long n)
 {

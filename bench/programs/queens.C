@@ -1,5 +1,4 @@
 // Eight queens by trying.
-extern "C" int putchar(int);
 
 void put(long n)
 {

@@ -1,5 +1,4 @@
 // Functions that call themselves and one another.
-extern "C" int putchar(int);
 
 void put(long n)
 {

@@ -1,5 +1,4 @@
 // References to objects, elements and pointers; as parameters, as results.
-extern "C" int putchar(int);
 
 void put(long n)
 {

@@ -1,5 +1,4 @@
 // Arrays of arrays, and pointers to rows.
-extern "C" int putchar(int);
 
 void put(long n)
 {

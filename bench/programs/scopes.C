@@ -1,5 +1,4 @@
 // Names that are hidden in blocks.
-extern "C" int putchar(int);
 
 void put(long n)
 {

@@ -1,5 +1,4 @@
 // Shifts of signed and unsigned values.
-extern "C" int putchar(int);
 
 void put(long n)
 {

@@ -1,5 +1,4 @@
 // Primes by crossing out.
-extern "C" int putchar(int);
 
 void put(long n)
 {

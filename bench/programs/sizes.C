@@ -1,5 +1,4 @@
 // sizeof of types and expressions.
-extern "C" int putchar(int);
 
 void put(long n)
 {

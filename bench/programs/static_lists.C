@@ -1,5 +1,4 @@
 // Lists and strings that start static arrays.
-extern "C" int putchar(int);
 
 void put(long n)
 {

@@ -1,5 +1,4 @@
 // A reference of the file.
-extern "C" int putchar(int);
 
 void put(long n)
 {

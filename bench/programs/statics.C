@@ -1,5 +1,4 @@
 // Static objects of functions.
-extern "C" int putchar(int);
 
 void put(long n)
 {

@@ -1,5 +1,4 @@
 // Strings in arrays and literals.
-extern "C" int putchar(int);
 
 void put(long n)
 {

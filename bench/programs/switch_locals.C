@@ -1,5 +1,4 @@
 // Declarations in the braces of a switch.
-extern "C" int putchar(int);
 
 void put(long n)
 {

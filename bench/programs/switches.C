@@ -1,5 +1,4 @@
 // switch: labels in any order, fall through, default in the middle, nested.
-extern "C" int putchar(int);
 
 void put(long n)
 {
@@ -68,8 +67,6 @@ int inner(unsigned a, int b)
     case 4000000000u:
         return b + 3;
     }
-    switch (b)
-    case 5: b = 6;
     switch (b) {
     }
     switch (b) {

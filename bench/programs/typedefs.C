@@ -1,5 +1,4 @@
 // Names of types.
-extern "C" int putchar(int);
 
 void put(long n)
 {

@@ -1,5 +1,4 @@
 // Strings that start arrays of unsigned char.
-extern "C" int putchar(int);
 
 void put(long n)
 {

@@ -1,5 +1,4 @@
 // Unsigned arithmetic and comparisons of mixed types.
-extern "C" int putchar(int);
 
 void put(long n)
 {

@@ -1,5 +1,4 @@
 // Functions without a value.
-extern "C" int putchar(int);
 
 void put(long n)
 {

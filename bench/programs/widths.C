@@ -1,5 +1,4 @@
 // Values that are stored in narrow types and widened again.
-extern "C" int putchar(int);
 
 void put(long n)
 {

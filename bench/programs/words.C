@@ -1,5 +1,4 @@
 // Words are sorted by pointers to their beginnings.
-extern "C" int putchar(int);
 
 void put(long n)
 {
