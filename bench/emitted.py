@@ -13,12 +13,14 @@ from against_gcc import CFRONT, sources
 from measure import TOP
 from native import Native, contents, run
 
+# what the linker adds: a `main` that lets the constant initialisers take effect first
 PRELUDE = """\
 typedef void (*__f)(void);
 struct __e { int d; __f f; };
 int __main(void);
-int main(void) { return __main(); }
 """
+STARTS = "static void __hci(void);\nint main(void) { __hci(); return __main(); }\n"
+PLAIN = "int main(void) { return __main(); }\n"
 FLAGS = ["-std=gnu89", "-O0"]
 
 
@@ -31,9 +33,10 @@ def judged(native, path):
         status, output, line = run([CFRONT, "go", name], given, folder=folder)
         if not line.startswith("cfront: ended "):
             return "stopped", line or f"status {status}"
+        text = contents(os.path.join(folder, name + ".c"))
         source = os.path.join(folder, "text.c")
         with open(source, "wb") as file:
-            file.write(PRELUDE.encode("ascii") + contents(os.path.join(folder, name + ".c")))
+            file.write((PRELUDE + (STARTS if b"__hci" in text else PLAIN)).encode("ascii") + text)
         program, said = native.build(source, "gcc", FLAGS)
     if program is None:
         return "DIFFERS", "gcc: " + said.strip().splitlines()[0]

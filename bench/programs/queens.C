@@ -23,9 +23,10 @@ int found;
 void put_queen(int row)
 {
     if (row == 8) {
-        if (found++ == 0)
+        if (found++ == 0) {
             for (int i = 0; i < 8; i++)
                 putchar('1' + place[i]);
+        }
         return;
     }
     for (int c = 0; c < 8; c++) {
