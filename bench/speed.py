@@ -18,20 +18,20 @@ CFRONT = os.environ.get("CFRONT", LAUNCHER)
 TOKENS_EACH = 172
 
 FUNCTION = """\
-enum e% { first%, second% = 3 };
-static int table%[4] = { 1, -2, 3 };
-int f%(int a, int *p, const char *s)
+enum e$ { first$, second$ = 3 };
+static int table$[4] = { 1, -2, 3 };
+int f$(int a, int *p, const char *s)
 {
     int sum = 0;
     for (int i = 0; i < 4; ++i)
-        sum += table%[i] * p[i] - a;
+        sum += table$[i] * p[i] - a;
     while (*s && sum < 1000)
         sum = sum + *s++;
     switch (sum & 3) {
-    case first%:
+    case first$:
         *p = sum;
         break;
-    case second%:
+    case second$:
         return a ? sum : -sum;
     default:
         do
@@ -40,7 +40,7 @@ int f%(int a, int *p, const char *s)
     }
     if (sum != 5)
         p[1] ^= sum << 2;
-    return sum % 11 + &table%[3] - table%;
+    return sum % 11 + &table$[3] - table$;
 }
 """
 
@@ -62,7 +62,7 @@ raise SystemExit(main())
 def file_of(tokens):
     """A file of about so many tokens."""
     count = tokens // TOKENS_EACH
-    return "".join(FUNCTION.replace("%", str(number)) for number in range(count)) + "int main(){return 7;}\n"
+    return "".join(FUNCTION.replace("$", str(number)) for number in range(count)) + "int main(){return 7;}\n"
 
 
 def go(text):
