@@ -1,0 +1,5 @@
+pub mod Contents
+pub mod Fits
+pub mod Library
+pub mod Types
+pub mod Labels
