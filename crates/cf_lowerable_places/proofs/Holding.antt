@@ -14,9 +14,10 @@ use Rattle.cf_lower_held.specs.declared.registers.Registers.{Registers}
 use Rattle.cf_lower_held.specs.declared.scene.Scene.{Scene}
 use Rattle.cf_lower_held.specs.Holds.{erased, erasing, kept_in, keeping, held_at}
 use Rattle.cf_lower_held.proofs.Erased.{erased_kept}
-use Rattle.cf_lowerable_places.specs.declared.kinds.Kinds.{Kinds}
+use Rattle.cf_lowerable_types.specs.declared.kinds.Kinds.{Kinds}
 use Rattle.cf_lowerable_places.specs.declared.contents.Contents.{Contents}
-use Rattle.cf_lowerable_places.specs.Contents.{has_kind, both_kinds, no_kind, restored, kinds_of, kinds_at, contents_in, knowing}
+use Rattle.cf_lowerable_types.specs.Kinds.{has_kind, both_kinds, no_kind}
+use Rattle.cf_lowerable_places.specs.Contents.{restored, kinds_of, kinds_at, contents_in, knowing}
 
 -- ---- the kinds at an index
 

@@ -1,7 +1,5 @@
-pub mod KindSets
 pub mod Holding
 pub mod Giving
-pub mod Layers
 pub mod LocalTypes
 pub mod Passing
 pub mod OperandLaws

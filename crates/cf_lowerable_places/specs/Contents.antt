@@ -1,7 +1,6 @@
 -- What registers hold, with the kinds that have an integer, in the code's types.
-use Rattle.std.specs.Prelude.{ℕ, Bool, true, false, ◌&&◌, List, Option, Some, None, slice_get}
+use Rattle.std.specs.Prelude.{ℕ, Bool, true, false, List, Option, Some, None, slice_get}
 use Rattle.cf_base.specs.declared.kind.Kind.{Kind}
-use Rattle.cf_base.specs.declared.kind.Kind.TheVariants.{Char, SChar, UChar, Short, UShort, Int, UInt, Long, ULong}
 use Rattle.cf_base.specs.declared.arith.Arith.{Arith}
 use Rattle.cf_base.specs.declared.arith.Arith.TheVariants as op
 use Rattle.cf_core.specs.FromTypes.{Tables, type_of}
@@ -10,30 +9,11 @@ use Rattle.cf_lower.specs.Kept.{Kept, unknown, integer_of, holds, argument, Keep
 use Rattle.cf_lower_held.specs.declared.scene.Scene.{Scene}
 use Rattle.cf_lower_held.specs.Holds.{keeping}
 use Rattle.cf_lower_types.specs.Bare.{bare, type_in}
-use Rattle.cf_lowerable_places.specs.declared.kinds.Kinds.{Kinds}
+use Rattle.cf_lowerable_types.specs.declared.kinds.Kinds.{Kinds}
+use Rattle.cf_lowerable_types.specs.Kinds.{has_kind, no_kind}
 use Rattle.cf_lowerable_places.specs.declared.content.Content.{Content}
 use Rattle.cf_lowerable_places.specs.declared.content.Content.TheVariants as content
 use Rattle.cf_lowerable_places.specs.declared.contents.Contents.{Contents}
-
--- ---- kinds
-
-abbrev pub has_kind : Kinds → Kind → Bool
-has_kind ks Char = ks.plain_char
-has_kind ks SChar = ks.signed_char
-has_kind ks UChar = ks.unsigned_char
-has_kind ks Short = ks.short
-has_kind ks UShort = ks.unsigned_short
-has_kind ks Int = ks.int
-has_kind ks UInt = ks.unsigned_int
-has_kind ks Long = ks.long
-has_kind ks ULong = ks.unsigned_long
-
--- the kinds that both have
-abbrev pub both_kinds : (Kind → Bool) → (Kind → Bool) → Kind → Bool
-both_kinds f h k = f k && h k
-
-abbrev pub no_kind : Kind → Bool
-no_kind k = false
 
 -- ---- one register
 

@@ -1,5 +1,4 @@
 pub mod Contents
 pub mod Fits
 pub mod Library
-pub mod Types
 pub mod Labels

@@ -6,9 +6,10 @@ ghost use Rattle.cf_core.specs.FromTypes.{Tables as TablesOf};
 ghost use Rattle.cf_lower.specs.Kept as definition;
 ghost use Rattle.cf_lower_held.specs.Holds.{kept_in};
 ghost use Rattle.cf_lower_types.specs.Bare.{sort_in};
-ghost use Rattle.cf_lowerable_places.specs.Contents.{has_kind, known, restored};
+ghost use Rattle.cf_lowerable_types.specs.Kinds.{has_kind};
+ghost use Rattle.cf_lowerable_places.specs.Contents.{known, restored};
 
-use crate::kinds::{Kinds, all_kinds, kinds_within};
+use cf_lowerable_types::{Kinds, all_kinds, kinds_within};
 use cf_lower_held::Held;
 use cf_lower_types::{PlaceType, Scalar};
 use cf_types::TyId;

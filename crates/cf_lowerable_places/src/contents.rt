@@ -5,10 +5,11 @@ ghost use Rattle.cf_core.specs.FromTypes.{Tables as TablesOf};
 ghost use Rattle.cf_lower.specs.Kept as definition;
 ghost use Rattle.cf_lower_held.specs.Holds.{kept_in};
 ghost use Rattle.cf_lower_held.specs.Scenes.{locals_in, statements_in};
-ghost use Rattle.cf_lowerable_places.specs.Contents.{both_kinds, contents_in, has_kind, kinds_at, known, knowing, restored};
+ghost use Rattle.cf_lowerable_types.specs.Kinds.{both_kinds, has_kind};
+ghost use Rattle.cf_lowerable_places.specs.Contents.{contents_in, kinds_at, known, knowing, restored};
 
 use crate::content::{Content, content_of};
-use crate::kinds::{Kinds, meet_kinds, no_kinds};
+use cf_lowerable_types::{Kinds, meet_kinds, no_kinds};
 use cf_base::{Items, Memory};
 use cf_lower_held::{Held, Registers, Scene, forget};
 use cf_lower_types::Tables;

@@ -6,11 +6,12 @@ ghost use Rattle.cf_lower_held.specs.Scenes.{statement_in, statements_in};
 ghost use Rattle.cf_lower_held.specs.declared.scene.Scene.{Scene as SceneOf};
 ghost use Rattle.cf_lower_place.specs.InPlace as in_place;
 ghost use Rattle.cf_plain.specs.Valid as valid;
-ghost use Rattle.cf_lowerable_places.specs.Contents.{has_kind, known};
+ghost use Rattle.cf_lowerable_types.specs.Kinds.{has_kind};
+ghost use Rattle.cf_lowerable_places.specs.Contents.{known};
 ghost use Rattle.cf_lowerable_places.specs.Labels as spec;
 
 use crate::content::Content;
-use crate::kinds::{Kinds, fits};
+use cf_lowerable_types::{Kinds, fits};
 use cf_base::{Items, Kind};
 use cf_plain::Plain;
 

@@ -8,7 +8,7 @@ ghost use Rattle.cf_lower_same.specs.Literals as literals;
 ghost use Rattle.cf_lower_types.specs.Bare.{bare};
 ghost use Rattle.cf_lowerable_places.specs.Library as spec;
 
-use crate::types::is_integer_type;
+use cf_lowerable_types::is_integer_type;
 use cf_base::Kind;
 use cf_lower_types::{Form, Tables, form_of};
 use cf_types::{Fun, TyId};

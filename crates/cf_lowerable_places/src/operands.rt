@@ -9,7 +9,7 @@ ghost use Rattle.cf_lower_types.specs.Bare.{type_in};
 ghost use Rattle.cf_lowerable_places.specs.Contents.{known};
 
 use crate::content::Content;
-use crate::types::is_void_place;
+use cf_lowerable_types::is_void_place;
 use cf_base::{Kind, Memory};
 use cf_core::{Change, PointerOperator};
 use cf_lower_types::{PlaceType, Tables, place_scalar};

@@ -8,11 +8,12 @@ ghost use Rattle.cf_lower.specs.Kept as definition;
 ghost use Rattle.cf_lower_held.specs.Scenes.{action_in, locals_in};
 ghost use Rattle.cf_lower_types.specs.Bare.{type_in};
 ghost use Rattle.cf_lowerable_places.specs.Contents as spec;
-ghost use Rattle.cf_lowerable_places.specs.Contents.{has_kind, known, knowing, restored};
+ghost use Rattle.cf_lowerable_types.specs.Kinds.{has_kind};
+ghost use Rattle.cf_lowerable_places.specs.Contents.{known, knowing, restored};
 
 use crate::content::{Content, kinds_in, kinds_of_scalar};
 use crate::contents::Contents;
-use crate::kinds::{Kinds, all_kinds, kinds_fitting, kinds_within};
+use cf_lowerable_types::{Kinds, all_kinds, kinds_fitting, kinds_within};
 use cf_base::{Arith, Kind, Memory};
 use cf_core::{Change, PointerOperator};
 use cf_lower_held::{Scene, kept_by};

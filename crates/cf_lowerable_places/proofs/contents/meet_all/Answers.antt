@@ -1,5 +1,5 @@
 use Rattle.std.proofs.Common.{◌≡◌, ◌<◌, List, length, ap, ◌∙◌, arith}
-use Rattle.cf_lowerable_places.specs.declared.kinds.Kinds.{Kinds}
+use Rattle.cf_lowerable_types.specs.declared.kinds.Kinds.{Kinds}
 use Rattle.cf_lowerable_places.specs.Contents.{kinds_at}
 use Rattle.cf_lowerable_places.proofs.Holding.{met_all, met_long, met_more}
 use Rattle.cf_lowerable_places.proofs.contents.meet_all.Goals as goal

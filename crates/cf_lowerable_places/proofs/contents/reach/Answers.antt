@@ -1,5 +1,5 @@
 use Rattle.std.proofs.Common.{List, ap, ◌∙◌}
-use Rattle.cf_lowerable_places.specs.declared.kinds.Kinds.{Kinds}
+use Rattle.cf_lowerable_types.specs.declared.kinds.Kinds.{Kinds}
 use Rattle.cf_lowerable_places.specs.Contents.{kinds_at}
 use Rattle.cf_lowerable_places.proofs.Holding.{at_longer}
 use Rattle.cf_lowerable_places.proofs.contents.reach.Goals as goal

@@ -1,5 +1,5 @@
 use Rattle.std.proofs.Common.{◌&&◌, ap, ◌∙◌}
-use Rattle.cf_lowerable_places.specs.Contents.{has_kind}
+use Rattle.cf_lowerable_types.specs.Kinds.{has_kind}
 use Rattle.cf_lowerable_places.proofs.labels.selects.Goals as goal
 
 pub returns : goal.returns

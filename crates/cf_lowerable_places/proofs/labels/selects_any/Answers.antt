@@ -2,7 +2,7 @@ use Rattle.std.proofs.Common.{◌&&◌, ◌||◌, ap, ◌∙◌}
 use Rattle.cf_base.specs.declared.kind.Kind.TheVariants.{Int}
 use Rattle.cf_lower_held.specs.Scenes.{statements_in}
 use Rattle.cf_lower_place.specs.InPlace.{labels_fit}
-use Rattle.cf_lowerable_places.specs.Contents.{has_kind}
+use Rattle.cf_lowerable_types.specs.Kinds.{has_kind}
 use Rattle.cf_lowerable_places.proofs.labels.selects_any.Goals as goal
 
 pub returns : goal.returns

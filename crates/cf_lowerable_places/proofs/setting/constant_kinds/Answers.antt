@@ -1,4 +1,4 @@
-use Rattle.cf_lowerable_places.specs.Contents.{has_kind}
+use Rattle.cf_lowerable_types.specs.Kinds.{has_kind}
 use Rattle.cf_lowerable_places.proofs.Giving.{constant_fits}
 use Rattle.cf_lowerable_places.proofs.setting.constant_kinds.Goals as goal
 

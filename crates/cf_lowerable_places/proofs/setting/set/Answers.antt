@@ -1,7 +1,8 @@
 use Rattle.std.proofs.Common.{sym, ap, ◌∙◌}
 use Rattle.cf_lower_held.specs.Holds.{kept_in}
 use Rattle.cf_lower_held.specs.Scenes.{action_in, locals_in, holding}
-use Rattle.cf_lowerable_places.specs.Contents.{has_kind, knowing}
+use Rattle.cf_lowerable_types.specs.Kinds.{has_kind}
+use Rattle.cf_lowerable_places.specs.Contents.{knowing}
 use Rattle.cf_lowerable_places.proofs.Giving.{set_known}
 use Rattle.cf_lowerable_places.proofs.Holding.{without_kinds}
 use Rattle.cf_lowerable_places.proofs.setting.set.Goals as goal

@@ -1,5 +1,6 @@
 use Rattle.std.proofs.Common.{ap, ◌∙◌}
-use Rattle.cf_lowerable_places.specs.Contents.{both_kinds, kinds_at}
+use Rattle.cf_lowerable_types.specs.Kinds.{both_kinds}
+use Rattle.cf_lowerable_places.specs.Contents.{kinds_at}
 use Rattle.cf_lowerable_places.proofs.Holding.{met}
 use Rattle.cf_lowerable_places.proofs.contents.Contents.meet.Goals as goal
 

@@ -21,9 +21,9 @@ use Rattle.cf_lower_types.specs.declared.place.PlaceType.{PlaceType}
 use Rattle.cf_lower_types.specs.declared.place.PlaceType.TheVariants as place
 use Rattle.cf_lower_types.specs.Bare.{bare, fun_at, form_type, type_in, Refers, is_code as is_code_sort}
 use Rattle.cf_lower_types.specs.Forms.{elements_in}
-use Rattle.cf_lowerable_places.specs.declared.types.Layer.{Layer}
-use Rattle.cf_lowerable_places.specs.declared.types.Layer.TheVariants as layer
-use Rattle.cf_lowerable_places.specs.Types.{layer_in, Told, IsLayer, IsBelow, is_of_kind}
+use Rattle.cf_lowerable_types.specs.declared.types.Layer.{Layer}
+use Rattle.cf_lowerable_types.specs.declared.types.Layer.TheVariants as layer
+use Rattle.cf_lowerable_types.specs.Types.{layer_in, Told, IsLayer, IsBelow, is_of_kind}
 
 -- ---- the layer of a type
 

@@ -1,4 +1,4 @@
-use Rattle.cf_lowerable_places.proofs.types.+const_once.Given as goal
+use Rattle.cf_lowerable_types.proofs.types.+const_once.Given as goal
 
 abbrev pub decreases-const_once : goal.decreases-const_once
 decreases-const_once l = l.id

@@ -11,8 +11,8 @@ use Rattle.cf_lower_place.specs.Leaf.{const_on_none}
 use Rattle.cf_lower_place.specs.Named.{is_signature}
 use Rattle.cf_lower_types.specs.declared.form.Form.{Form}
 use Rattle.cf_lower_types.specs.declared.form.Form.TheVariants as form
-use Rattle.cf_lowerable_places.specs.declared.types.Layer.{Layer}
-use Rattle.cf_lowerable_places.specs.declared.types.Layer.TheVariants as layer
+use Rattle.cf_lowerable_types.specs.declared.types.Layer.{Layer}
+use Rattle.cf_lowerable_types.specs.declared.types.Layer.TheVariants as layer
 
 abbrev pub layer_in : Ty → Layer
 layer_in (ty.Const t) = layer.Const t

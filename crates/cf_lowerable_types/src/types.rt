@@ -13,7 +13,7 @@ ghost use Rattle.cf_lower.specs.Kept.{holds};
 ghost use Rattle.cf_lower_layout.specs.Sorts.{address};
 ghost use Rattle.cf_lower_types.specs.Bare.{bare, classes_of, is_code as is_code_sort, sort_in, type_in};
 ghost use Rattle.cf_types.specs.Table.{Names, NamesBelow};
-ghost use Rattle.cf_lowerable_places.specs.Types as spec;
+ghost use Rattle.cf_lowerable_types.specs.Types as spec;
 
 use cf_base::{Kind, Memory};
 use cf_lower_same::same_places;

@@ -4,7 +4,7 @@ ghost use Rattle.std.specs.Prelude.{◌≡◌, ◌&&◌, true};
 ghost use Rattle.cf_base.specs.Integers as integers;
 ghost use Rattle.cf_base.specs.declared.kind.Kind.{Kind as KindOf};
 ghost use Rattle.cf_lower.specs.Kept as definition;
-ghost use Rattle.cf_lowerable_places.specs.Contents.{both_kinds, has_kind, no_kind};
+ghost use Rattle.cf_lowerable_types.specs.Kinds.{both_kinds, has_kind, no_kind};
 
 use cf_base::Kind;
 
