@@ -18,11 +18,11 @@ ghost use Rattle.cf_lowerable_places.specs.Library as spec;
 use crate::content::Content;
 use crate::library::{Library, has_library_type, library_named, takes_as_many};
 use crate::locals::{are_passed, have_types};
-use cf_lowerable_types::is_signature;
 use cf_base::{Kind, Memory};
 use cf_lower_held::Scene;
 use cf_lower_same::same_bare;
 use cf_lower_types::{Scalar, Tables, parameters, result_sort};
+use cf_lowerable_types::is_signature;
 use cf_types::TyId;
 
 fn is_int(kind: Kind) -> bool

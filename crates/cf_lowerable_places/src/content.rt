@@ -9,9 +9,9 @@ ghost use Rattle.cf_lower_types.specs.Bare.{sort_in};
 ghost use Rattle.cf_lowerable_types.specs.Kinds.{has_kind};
 ghost use Rattle.cf_lowerable_places.specs.Contents.{known, restored};
 
-use cf_lowerable_types::{Kinds, all_kinds, kinds_within};
 use cf_lower_held::Held;
 use cf_lower_types::{PlaceType, Scalar};
+use cf_lowerable_types::{Kinds, all_kinds, kinds_within};
 use cf_types::TyId;
 
 /// What a register holds.

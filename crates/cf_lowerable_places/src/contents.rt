@@ -9,10 +9,10 @@ ghost use Rattle.cf_lowerable_types.specs.Kinds.{both_kinds, has_kind};
 ghost use Rattle.cf_lowerable_places.specs.Contents.{contents_in, kinds_at, known, knowing, restored};
 
 use crate::content::{Content, content_of};
-use cf_lowerable_types::{Kinds, meet_kinds, no_kinds};
 use cf_base::{Items, Memory};
 use cf_lower_held::{Held, Registers, Scene, forget};
 use cf_lower_types::Tables;
+use cf_lowerable_types::{Kinds, meet_kinds, no_kinds};
 use cf_plain::Plain;
 use std::alloc::Global;
 

@@ -11,8 +11,8 @@ ghost use Rattle.cf_lowerable_places.specs.Contents.{known};
 ghost use Rattle.cf_lowerable_places.specs.Labels as spec;
 
 use crate::content::Content;
-use cf_lowerable_types::{Kinds, fits};
 use cf_base::{Items, Kind};
+use cf_lowerable_types::{Kinds, fits};
 use cf_plain::Plain;
 
 /// What label a statement is, if it is one.

@@ -16,7 +16,6 @@ ghost use Rattle.cf_lowerable_places.specs.Fits.{given_in, set_fits, takes_given
 use crate::calls::{set_by_name, set_by_pointer};
 use crate::content::Content;
 use crate::contents::Contents;
-use cf_lowerable_types::fits;
 use crate::library::may_be_named;
 use crate::locals::{may_be_local, may_begin, may_finish};
 use crate::operands::{
@@ -25,10 +24,10 @@ use crate::operands::{
 };
 use crate::scalars::{may_convert, may_first, may_hold, may_store};
 use crate::setting::held;
-use cf_lowerable_types::{are_chars, is_object_type, is_void};
 use cf_base::{Kind, Memory};
 use cf_lower_held::Scene;
 use cf_lower_types::{Scalar, Tables, sort_of};
+use cf_lowerable_types::{are_chars, fits, is_object_type, is_void};
 use cf_plain::Action;
 use cf_types::TyId;
 

@@ -8,9 +8,9 @@ ghost use Rattle.cf_lower_same.specs.Literals as literals;
 ghost use Rattle.cf_lower_types.specs.Bare.{bare};
 ghost use Rattle.cf_lowerable_places.specs.Library as spec;
 
-use cf_lowerable_types::is_integer_type;
 use cf_base::Kind;
 use cf_lower_types::{Form, Tables, form_of};
+use cf_lowerable_types::is_integer_type;
 use cf_types::{Fun, TyId};
 
 /// The functions of the library.

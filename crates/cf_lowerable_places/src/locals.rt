@@ -15,11 +15,11 @@ ghost use Rattle.cf_lower_types.specs.Bare.{type_in};
 ghost use Rattle.cf_plain_frames.specs.Since as since;
 ghost use Rattle.cf_lowerable_places.specs.Fits.{view_in};
 
-use cf_lowerable_types::{const_on_none, has_bytes, is_code, is_laid, is_reference};
 use cf_base::Memory;
 use cf_lower_held::{Scene, is_argument};
 use cf_lower_same::{same_bare, same_places};
 use cf_lower_types::{PlaceType, is_scalar, referred, sort_of};
+use cf_lowerable_types::{const_on_none, has_bytes, is_code, is_laid, is_reference};
 use cf_types::TyId;
 
 /// The type of the local of this number, if there is one.

@@ -9,10 +9,10 @@ ghost use Rattle.cf_lower_types.specs.Bare.{type_in};
 ghost use Rattle.cf_lowerable_places.specs.Contents.{known};
 
 use crate::content::Content;
-use cf_lowerable_types::is_void_place;
 use cf_base::{Kind, Memory};
 use cf_core::{Change, PointerOperator};
 use cf_lower_types::{PlaceType, Tables, place_scalar};
+use cf_lowerable_types::is_void_place;
 
 /// Whether a register holds an integer.
 pub fn is_integer(content: &Content) -> bool

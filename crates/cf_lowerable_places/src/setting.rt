@@ -13,11 +13,11 @@ ghost use Rattle.cf_lowerable_places.specs.Contents.{known, knowing, restored};
 
 use crate::content::{Content, kinds_in, kinds_of_scalar};
 use crate::contents::Contents;
-use cf_lowerable_types::{Kinds, all_kinds, kinds_fitting, kinds_within};
 use cf_base::{Arith, Kind, Memory};
 use cf_core::{Change, PointerOperator};
 use cf_lower_held::{Scene, kept_by};
 use cf_lower_types::{Tables, place_scalar, result_sort, sort_of};
+use cf_lowerable_types::{Kinds, all_kinds, kinds_fitting, kinds_within};
 use cf_plain::Action;
 
 /// What a register holds of this function.

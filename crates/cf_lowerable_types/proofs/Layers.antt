@@ -134,7 +134,7 @@ void_place tables place.Void b e = e
 void_place tables place.Character b e = e
 void_place tables (place.Characters n) b e = e
 
-without_void : (t : SourceType) → is_void (without_const t) ≡ is_void t
+pub without_void : (t : SourceType) → is_void (without_const t) ≡ is_void t
 without_void void = refl
 without_void (integer k) = refl
 without_void (enumeration e) = refl

@@ -8,6 +8,6 @@ mod types;
 
 pub use kinds::{Kinds, all_kinds, fits, kinds_fitting, kinds_within, meet_kinds, no_kinds};
 pub use types::{
-    are_chars, const_on_none, has_bytes, is_code, is_integer_type, is_laid, is_object_type,
+    are_chars, const_on_none, entry, has_bytes, is_code, is_integer_type, is_laid, is_object_type,
     is_reference, is_signature, is_void, is_void_place,
 };

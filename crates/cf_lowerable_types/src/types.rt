@@ -24,7 +24,7 @@ use cf_types::{Ty, TyId};
 
 /// The type of this number, as the table has it; `void` where the table has none.
 #[tactic(auto, using(cf_lower_types::proofs::Entries::found_in, cf_lower_types::proofs::Entries::names_in, cf_lower_types::proofs::Entries::missing_in, cf_lower_types::proofs::Entries::no_names))]
-fn entry(tables: &Tables<'_>, id: TyId) -> Ty
+pub fn entry(tables: &Tables<'_>, id: TyId) -> Ty
     ensures value { type_of tables.now id ≡ type_step tables.now (type_of tables.now) result }
     ensures named { Names tables.now.types.funs id (length tables.now.types.funs) result }
     ensures earlier { NamesBelow id result }

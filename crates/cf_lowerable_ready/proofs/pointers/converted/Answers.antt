@@ -1,0 +1,5 @@
+use Rattle.cf_lowerable_ready.proofs.GivenLaws.{made_by}
+use Rattle.cf_lowerable_ready.proofs.pointers.converted.Goals as goal
+
+pub returns : goal.returns
+returns c = made_by _ _ _ _ _ c.inner-t.ensures.same c.inner-t.ensures.form c.in_ok-made.ensures
