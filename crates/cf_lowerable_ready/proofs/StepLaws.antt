@@ -75,8 +75,10 @@ module _ (locals : List SourceType) (result : SourceType) where
   given_by true g = refl
   given_by false g = refl
 
-  pub give_goes : (g : Keeping) (r : Register) (k : Option Kept) (b : Bool) → k ≡ g r → b ≡ suits_if result k → goes b g ≡ step locals result (give (Some r)) g
-  give_goes g r k b at is = given_by b g ∙ ap (λ c. if c then Some g else None) (is ∙ ap (suits_if result) at ∙ returned_is (g r))
+  pub give_goes : (g : Keeping) (o : Option Register) (r : Register) (k : Option Kept) (b : Bool) → o ≡ Some r → k ≡ g r → b ≡ suits_if result k
+      → goes b g ≡ step locals result (give o) g
+  give_goes g o r k b some at is =
+      given_by b g ∙ ap (λ c. if c then Some g else None) (is ∙ ap (suits_if result) at ∙ returned_is (g r)) ∙ sym (ap (λ p. step locals result (give p) g) some)
 
   -- ---- branches
 

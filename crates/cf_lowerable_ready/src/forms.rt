@@ -47,7 +47,7 @@ fn form_in(ty: &Ty) -> Form
 }
 
 /// A type that is no const, by its number and its form.
-#[derive(Clone, Copy, Debug, PartialEq, Eq)]
+#[derive(Clone, Copy)]
 pub struct Inner {
     pub id: TyId,
     pub form: Form,

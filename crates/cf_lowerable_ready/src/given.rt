@@ -90,7 +90,7 @@ fn first_element(tables: &Tables<'_>, array: &Content) -> Content
 }
 
 /// What a call by name gives, on no object and with no place for its result.
-fn call(tables: &Tables<'_>, ty: TyId, object: Option<u32>, into: Option<u32>) -> Content
+fn call_by_name(tables: &Tables<'_>, ty: TyId, object: Option<u32>, into: Option<u32>) -> Content
     ensures { (g : Keeping) (name : Name) (is : List ℕ) → known tables.now result ≡ spec.done_kept g (plain.call name (type_of tables.now ty) object is into) }
 {
     match object {
@@ -145,14 +145,18 @@ fn done(x: &Scene<'_>, cs: &Contents, a: &Action) -> Result<Content, Memory>
             object,
             result,
             ..
-        } => Ok(call(x.tables, *ty, *object, *result)),
+        } => Ok(call_by_name(x.tables, *ty, *object, *result)),
         Action::PointerCall {
             object,
             pointer,
             ty,
             result,
             ..
-        } => call_through(x.tables, &held(x, cs, *pointer), *ty, *object, *result),
+        } => {
+            let content = held(x, cs, *pointer);
+            let made = call_through(x.tables, &content, *ty, *object, *result)?;
+            Ok(made)
+        }
         _ => Ok(Content::Unset),
     }
 }

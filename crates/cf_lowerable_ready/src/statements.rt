@@ -61,7 +61,6 @@ fn is_set(content: &Content) -> bool
 }
 
 /// What an action gives, if it is ready and takes what it finds.
-#[tactic(auto, using(crate::proofs::StepLaws::gives_none, crate::proofs::StepLaws::gives_kept))]
 fn given(x: &Scene<'_>, a: &Action, cs: &Contents) -> Result<Content, Memory>
     ensures { IfOk result (λ c. known x.now.tables.now c ≡ gives_in x.now (knowing x.now cs.now) (action_in x.now a.now)) }
 {
