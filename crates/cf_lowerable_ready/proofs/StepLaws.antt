@@ -42,7 +42,7 @@ module _ (locals : List SourceType) (result : SourceType) where
 
   module _ (g : Keeping) (r : Register) where
     abbrev setting : Option Kept → Option Keeping
-    setting k = elim k [ None ↦ None | Some x ↦ Some (keep g r x) ]
+    setting k = elim k as (λ _. Option Keeping) [ None ↦ None | Some x ↦ Some (keep g r x) ]
 
     set_made : (b : Bool) (k : Option Kept) → setting (kept_when b k) ≡ when b (elim k [ None ↦ None | Some x ↦ Some (keep g r x) ])
     set_made false k = refl
@@ -142,7 +142,7 @@ module _ (locals : List SourceType) (result : SourceType) where
   -- ---- one statement more
 
   abbrev on : Option Keeping → (Keeping → Option Keeping) → Option Keeping
-  on o f = elim o [ None ↦ None | Some h ↦ f h ]
+  on o f = elim o as (λ _. Option Keeping) [ None ↦ None | Some h ↦ f h ]
 
   more_made : (rest : Plains) (b : Bool) (o : Option Keeping)
       → when (b && elim o [ None ↦ false | Some h ↦ all_ready locals result rest h ]) (elim o [ None ↦ None | Some h ↦ after_all locals result rest h ]) ≡ on (when b o) (steps locals result rest)

@@ -4,7 +4,6 @@ ghost use Rattle.std.specs.Prelude.{◌≡◌, ◌==◌, ◌<◌, ℕ, length, s
 ghost use Rattle.cf_core.specs.FromTypes.{Tables as TablesOf};
 ghost use Rattle.cf_plain_kept.specs.Kept as definition;
 ghost use Rattle.cf_lowerable_ready.specs.Contents.{content_at, keeping, known, put as put_in, without};
-ghost use Rattle.cf_lowerable_ready.specs.declared.content.Content.TheVariants as content;
 
 use crate::content::Content;
 use crate::meeting::both;

@@ -162,7 +162,6 @@ fn is_comparison(op: Arith) -> bool
 }
 
 /// Whether an operator takes this right operand.
-#[tactic(auto, using(crate::proofs::GivenLaws::right_of_shift, crate::proofs::GivenLaws::right_of_other))]
 fn right_has(op: Arith, kind: Kind, content: &Content) -> bool
     ensures { (tables : TablesOf) → result ≡ definition.right_has op kind (known tables content.now) }
 {
@@ -173,16 +172,23 @@ fn right_has(op: Arith, kind: Kind, content: &Content) -> bool
     }
 }
 
+/// Whether both are so.
+fn both(a: bool, b: bool) -> bool
+    ensures { result ≡ (a && b) }
+{
+    a && b
+}
+
 /// Whether it takes both operands.
-#[tactic(auto, using(crate::proofs::GivenLaws::both_are))]
 fn takes_both(op: Arith, kind: Kind, left: &Content, right: &Content) -> bool
     ensures { (tables : TablesOf) → result ≡ (definition.has_kind kind (known tables left.now) && definition.right_has op kind (known tables right.now)) }
 {
-    has_kind(kind, left) && right_has(op, kind, right)
+    let first = has_kind(kind, left);
+    let second = right_has(op, kind, right);
+    both(first, second)
 }
 
 /// What it gives of operands of this kind; a comparison gives 0 or 1.
-#[tactic(auto, using(crate::proofs::GivenLaws::compares, crate::proofs::GivenLaws::computes))]
 fn operator_gives(op: Arith, kind: Kind) -> Content
     ensures { (tables : TablesOf) → known tables result ≡ Some (if typing.is_comparison op then definition.a_truth else definition.of_kind kind) }
 {
@@ -194,7 +200,6 @@ fn operator_gives(op: Arith, kind: Kind) -> Content
 }
 
 /// What an operator gives.
-#[tactic(auto, using(crate::proofs::GivenLaws::given_so, crate::proofs::GivenLaws::given_not))]
 pub fn operated(op: Arith, kind: Kind, left: &Content, right: &Content) -> Content
     ensures { (tables : TablesOf) → known tables result ≡ definition.operated op kind (known tables left.now) (known tables right.now) }
 {
@@ -206,7 +211,6 @@ pub fn operated(op: Arith, kind: Kind, left: &Content, right: &Content) -> Conte
 }
 
 /// The same of one operand.
-#[tactic(auto, using(crate::proofs::GivenLaws::given_so, crate::proofs::GivenLaws::given_not))]
 pub fn unary(kind: Kind, operand: &Content) -> Content
     ensures { (tables : TablesOf) → known tables result ≡ definition.given (definition.has_kind kind (known tables operand.now)) (definition.of_kind kind) }
 {
@@ -218,15 +222,15 @@ pub fn unary(kind: Kind, operand: &Content) -> Content
 }
 
 /// Whether an integer may be changed by another value.
-#[tactic(auto, using(crate::proofs::GivenLaws::both_are))]
 fn takes_change(op: Arith, kind: Kind, left: &Content, right: &Content) -> bool
     ensures { (tables : TablesOf) → result ≡ (definition.integer_in (known tables left.now) && definition.right_has op kind (known tables right.now)) }
 {
-    is_integer(left) && right_has(op, kind, right)
+    let first = is_integer(left);
+    let second = right_has(op, kind, right);
+    both(first, second)
 }
 
 /// The new value of an integer that is changed in place.
-#[tactic(auto, using(crate::proofs::GivenLaws::given_so, crate::proofs::GivenLaws::given_not))]
 fn counted(op: Arith, kind: Kind, to: Kind, left: &Content, right: &Content) -> Content
     ensures { (tables : TablesOf) → known tables result ≡ definition.given (definition.integer_in (known tables left.now) && definition.right_has op kind (known tables right.now)) (definition.of_kind to) }
 {

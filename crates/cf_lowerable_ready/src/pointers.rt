@@ -249,7 +249,6 @@ fn to_nothing(content: &Content) -> Content
 }
 
 /// What is converted to an integer type.
-#[tactic(auto, using(crate::proofs::GivenLaws::given_so, crate::proofs::GivenLaws::given_not))]
 fn to_integer(kind: Kind, content: &Content) -> Content
     ensures { (tables : TablesOf) → known tables result ≡ definition.given (definition.integer_in (known tables content.now)) (definition.of_kind kind) }
 {
