@@ -1,5 +1,5 @@
 -- What actions give, by their forms.
-use Rattle.std.proofs.Common.{◌≡◌, ℕ, List, map, Option, Some, None, refl, sym, ap, ◌∙◌}
+use Rattle.std.proofs.Common.{◌≡◌, ℕ, List, Option, Some, None, refl, sym, ap, ◌∙◌}
 use Rattle.std.specs.Prelude.{ℤ}
 use Rattle.std.specs.Option.{option_map}
 use Rattle.cf_base.specs.Integers.{fits}
@@ -17,7 +17,6 @@ use Rattle.cf_plain.specs.Plain.{Register}
 use Rattle.cf_plain_kept.specs.Kept.{Kept, an_integer, Keeping, named, pointed_call, kept_by}
 use Rattle.cf_lowerable_types.specs.declared.kinds.Kinds.{Kinds}
 use Rattle.cf_lowerable_types.specs.Kinds.{has_kind}
-use Rattle.cf_lowerable_ready.specs.declared.content.Content.{Content}
 use Rattle.cf_lowerable_ready.specs.declared.content.Content.TheVariants as content
 use Rattle.cf_lowerable_ready.specs.declared.scene.Scene.{Scene}
 use Rattle.cf_lowerable_ready.specs.Contents.{known}

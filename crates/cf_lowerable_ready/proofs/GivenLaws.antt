@@ -2,16 +2,15 @@
 use Rattle.std.proofs.Common.{◌≡◌, ℕ, Bool, true, false, ◌&&◌, ◌||◌, if◌then◌else◌, Option, Some, None, refl, sym, ap, ◌∙◌}
 use Rattle.cf_base.specs.declared.kind.Kind.{Kind}
 use Rattle.cf_base.specs.declared.arith.Arith.{Arith}
-use Rattle.cf_core.specs.Types.{Name, SourceType, data_member, function_member}
+use Rattle.cf_core.specs.Types.{SourceType}
 use Rattle.cf_core.specs.FromTypes.{Tables, type_of}
 use Rattle.cf_core.specs.Typing.{is_comparison}
 use Rattle.cf_types.specs.Operators.{is_shift}
 use Rattle.cf_lower_types.specs.declared.form.Form.{Form}
 use Rattle.cf_lower_types.specs.declared.form.Form.TheVariants as form
-use Rattle.cf_plain_kept.specs.Kept.{Kept, no_value, an_integer, a_place, a_member, an_object, a_truth, of_kind, given, integer_in, has_kind, right_has, to_member, converted, stored, begun, suits}
+use Rattle.cf_plain_kept.specs.Kept.{Kept, no_value, an_integer, a_place, an_object, a_truth, of_kind, given, integer_in, has_kind, right_has, to_member, converted, stored, begun}
 use Rattle.cf_lowerable_types.specs.declared.kinds.Kinds.{Kinds}
 use Rattle.cf_lowerable_types.specs.Kinds.{has_kind as kind_in}
-use Rattle.cf_lowerable_ready.specs.declared.content.Content.{Content}
 use Rattle.cf_lowerable_ready.specs.declared.content.Content.TheVariants as content
 use Rattle.cf_lowerable_ready.specs.Contents.{known, suits_if}
 use Rattle.cf_lowerable_ready.specs.Types.{stripped, outer_type}

@@ -1,15 +1,12 @@
 -- Types by what stands outermost in them.
-use Rattle.std.proofs.Common.{◌≡◌, ℕ, zero, suc, ◌<◌, Bool, true, false, List, [], ◌∷◌, length, map, Option, Some, None, slice_get, refl, sym, ap, ◌∙◌, arith}
+use Rattle.std.proofs.Common.{◌≡◌, ℕ, zero, suc, ◌<◌, Bool, List, [], ◌∷◌, length, map, Option, Some, None, slice_get, refl, sym, ap, ◌∙◌, arith}
 use Rattle.cf_types.specs.declared.ty.Fun.{Fun}
 use Rattle.cf_types.specs.declared.ty.Ty.{Ty}
 use Rattle.cf_types.specs.declared.ty.Ty.TheVariants as ty
 use Rattle.cf_types.specs.Table.{Names}
-use Rattle.cf_core.specs.Types.{SourceType, takes, gives}
+use Rattle.cf_core.specs.Types.{SourceType, gives}
 use Rattle.cf_core.specs.FromTypes.{Tables, type_of, type_step, taking, fun_type}
-use Rattle.cf_lower_types.specs.declared.form.Form.{Form}
-use Rattle.cf_lower_types.specs.Bare.{fun_at}
 use Rattle.cf_lower_types.specs.Forms.{under_const, form_in}
-use Rattle.cf_plain_kept.specs.Kept.{Kept}
 use Rattle.cf_lowerable_ready.specs.Types.{stripped, outer_type, OfFunction, IsKnown}
 
 same : {A : Type 0} (a b : A) → Some a ≡ Some b → a ≡ b

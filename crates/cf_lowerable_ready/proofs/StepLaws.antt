@@ -5,7 +5,7 @@ use Rattle.std.proofs.lemmas.List.{at_drop_all}
 use Rattle.cf_core.specs.Types.{SourceType}
 use Rattle.cf_plain.specs.declared.statement.Plain.{Plain as CodePlain}
 use Rattle.cf_plain.specs.Plain.{Register, Action, Plain, Plains, act, set, branch, loop, switch, give, nothing, more}
-use Rattle.cf_plain_kept.specs.Kept.{Kept, no_value, an_integer, a_place, a_member, an_object, Keeping, nothing_set, keep, common, untouched, integer_in, kept_by, returned, joined, after, after_all, suits}
+use Rattle.cf_plain_kept.specs.Kept.{Kept, Keeping, nothing_set, keep, common, untouched, integer_in, kept_by, returned, joined, after, after_all}
 use Rattle.cf_lower_kept.specs.Ready.{action_ready, ready, all_ready}
 use Rattle.cf_lower_held.proofs.Forgotten.{drop_item}
 use Rattle.cf_lowerable_ready.specs.declared.scene.Scene.{Scene}

@@ -1,5 +1,5 @@
 -- Which values places take, by the forms of their types.
-use Rattle.std.proofs.Common.{◌≡◌, ℕ, Bool, true, false, List, [], ◌∷◌, map, Option, Some, None, slice_get, refl, sym, ap, ◌∙◌}
+use Rattle.std.proofs.Common.{◌≡◌, ℕ, Bool, List, [], ◌∷◌, map, Option, Some, None, slice_get, refl, sym, ap, ◌∙◌}
 use Rattle.cf_base.specs.declared.kind.Kind.TheVariants.{Char, Int}
 use Rattle.cf_types.specs.declared.ty.Fun.{Fun}
 use Rattle.cf_core.specs.Types.{Name, SourceType, void, integer, enumeration, class, pointer, reference, array, gives, data_member, function_member, without_const, type_eq, same_but_const}
@@ -9,7 +9,7 @@ use Rattle.cf_lower_types.specs.declared.form.Form.TheVariants as form
 use Rattle.cf_lower_types.specs.declared.place.PlaceType.{PlaceType}
 use Rattle.cf_lower_types.specs.declared.place.PlaceType.TheVariants as place
 use Rattle.cf_lower_types.specs.Bare.{type_in}
-use Rattle.cf_plain_kept.specs.Kept.{Kept, no_value, an_integer, a_place, a_member, an_object, suits}
+use Rattle.cf_plain_kept.specs.Kept.{Kept, no_value, an_integer, a_place, a_member, an_object}
 use Rattle.cf_lowerable_ready.specs.Contents.{place_type, suits_if, is_member_of, has_no_value}
 use Rattle.cf_lowerable_ready.specs.Types.{stripped, outer_type}
 use Rattle.cf_lowerable_ready.proofs.TypeLaws.{suits_by}

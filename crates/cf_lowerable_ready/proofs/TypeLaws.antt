@@ -1,11 +1,11 @@
 -- What names and scalars of types give, by the entries and forms of the types.
-use Rattle.std.proofs.Common.{◌≡◌, ℕ, Bool, true, false, not, List, [], ◌∷◌, length, map, Option, Some, None, slice_get, refl, sym, ap, ◌∙◌}
+use Rattle.std.proofs.Common.{◌≡◌, ℕ, Bool, true, false, not, List, [], ◌∷◌, map, Option, Some, None, slice_get, refl, sym, ap, ◌∙◌}
 use Rattle.std.proofs.Common.{◌&&◌}
 use Rattle.cf_base.specs.declared.kind.Kind.{Kind}
 use Rattle.cf_types.specs.declared.ty.Fun.{Fun}
 use Rattle.cf_types.specs.declared.ty.Ty.{Ty}
 use Rattle.cf_types.specs.declared.ty.Ty.TheVariants as ty
-use Rattle.cf_core.specs.Types.{SourceType, void, gives, const, without_const, is_void, result as result_type}
+use Rattle.cf_core.specs.Types.{SourceType, void, gives, const, is_void, result as result_type}
 use Rattle.cf_core.specs.FromTypes.{Tables, type_of, type_step, taking, fun_type}
 use Rattle.cf_core.specs.Places.{is_reference}
 use Rattle.cf_lower.specs.Kept.{within as lower_within}
@@ -14,14 +14,13 @@ use Rattle.cf_lower_types.specs.declared.form.Form.{Form}
 use Rattle.cf_lower_types.specs.declared.form.Form.TheVariants as form
 use Rattle.cf_lower_types.specs.declared.place.PlaceType.{PlaceType}
 use Rattle.cf_lower_types.specs.declared.place.PlaceType.TheVariants as place
-use Rattle.cf_lower_types.specs.Bare.{fun_at, type_in, IsFunction, IsNoFunction}
+use Rattle.cf_lower_types.specs.Bare.{type_in, IsNoFunction}
 use Rattle.cf_lower_types.specs.Forms.{under_const, target_in, function_in}
 use Rattle.cf_lower_types.proofs.FunctionLaws.{is_function, is_none, result_at}
 use Rattle.cf_plain_kept.specs.Kept.{Kept, an_integer, a_place, a_member, named, kept_of, decayed, converted, suits, of_kind, value_of}
 use Rattle.cf_lowerable_types.specs.declared.kinds.Kinds.{Kinds}
 use Rattle.cf_lowerable_types.specs.Kinds.{has_kind}
 use Rattle.cf_lowerable_types.proofs.Layers.{without_void}
-use Rattle.cf_lowerable_ready.specs.declared.content.Content.{Content}
 use Rattle.cf_lowerable_ready.specs.declared.content.Content.TheVariants as content
 use Rattle.cf_lowerable_ready.specs.Contents.{known, place_type, valued}
 use Rattle.cf_lowerable_ready.specs.Types.{stripped, outer_type, OfFunction, IsKnown}

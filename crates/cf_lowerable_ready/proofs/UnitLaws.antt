@@ -1,12 +1,12 @@
 -- The functions of a file, one after the other.
-use Rattle.std.proofs.Common.{◌≡◌, ℕ, ◌+◌, ◌<◌, ◌≤◌, Bool, true, false, ◌&&◌, List, ◌∷◌, length, map, drop, get_or, refl, sym, ap, subst, ◌∙◌}
+use Rattle.std.proofs.Common.{◌≡◌, ℕ, ◌+◌, ◌<◌, ◌≤◌, Bool, true, false, ◌&&◌, List, ◌∷◌, length, map, drop, get_or, sym, ap, ◌∙◌}
 use Rattle.std.proofs.lemmas.List.{at_drop_all}
 use Rattle.std.specs.List.{list_all}
 use Rattle.cf_classes.specs.ClassTable.{ClassTable}
 use Rattle.cf_core.specs.FromTypes.{Tables}
 use Rattle.cf_lower_held.proofs.Forgotten.{drop_item}
 use Rattle.cf_lower_kept.specs.Ready.{function_ready, functions_ready}
-use Rattle.cf_plain.specs.View.{Unit, file_of, function_of, tables_of}
+use Rattle.cf_plain.specs.View.{Unit, file_of, function_of}
 use Rattle.cf_plain.specs.declared.unit.PlainFn.{PlainFn}
 use Rattle.cf_types.specs.Table.{Table}
 

@@ -1,6 +1,6 @@
 -- What is left of an action on an object, and what a call gives.
 use Rattle.std.specs.Prelude.{Option, Some, None}
-use Rattle.cf_core.specs.Types.{SourceType, result as result_type}
+use Rattle.cf_core.specs.Types.{result as result_type}
 use Rattle.cf_plain.specs.Plain.{Action, store, first, zeros, bytes, finish, call, pointer_call}
 use Rattle.cf_plain_kept.specs.Kept.{Kept, no_value, Keeping, stored, begun, filled, value_of, pointed_call}
 

@@ -3,7 +3,7 @@
 ghost use Rattle.std.specs.Prelude.{◌≡◌, ◌&&◌, ◌||◌, slice_get, IfOk};
 ghost use Rattle.cf_base.specs.Integers as integers;
 ghost use Rattle.cf_base.specs.declared.kind.Kind.TheVariants as kind;
-ghost use Rattle.cf_core.specs.FromTypes.{Tables as TablesOf, type_of};
+ghost use Rattle.cf_core.specs.FromTypes.{type_of};
 ghost use Rattle.cf_core.specs.View.{change_of};
 ghost use Rattle.cf_lower_kept.specs.Ready as ready;
 ghost use Rattle.cf_lowerable_ready.specs.Asked as spec;
