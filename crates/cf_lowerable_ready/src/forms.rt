@@ -48,14 +48,14 @@ fn form_in(ty: &Ty) -> Form
 
 /// A type that is no const, by its number and its form.
 #[derive(Clone, Copy)]
-pub struct Inner {
+pub struct Bare {
     pub id: TyId,
     pub form: Form,
 }
 
 /// The type of this number without const of its own.
 #[tactic(auto, using(crate::proofs::InnerTypes::inside, crate::proofs::InnerTypes::itself, crate::proofs::InnerTypes::its_form, crate::proofs::InnerTypes::function_there, cf_lower_types::proofs::Forms::const_below))]
-pub fn inner(tables: &Tables<'_>, id: TyId) -> Inner
+pub fn inner(tables: &Tables<'_>, id: TyId) -> Bare
     ensures same { type_of tables.now result.id ≡ spec.stripped (type_of tables.now id) }
     ensures form { type_of tables.now result.id ≡ spec.outer_type tables.now result.form }
     ensures known { spec.IsKnown tables.now result.form }
@@ -63,7 +63,7 @@ pub fn inner(tables: &Tables<'_>, id: TyId) -> Inner
     let ty = entry(tables, id);
     match under_const(&ty) {
         Some(inside) => inner(tables, inside),
-        None => Inner {
+        None => Bare {
             id,
             form: form_in(&ty),
         },
