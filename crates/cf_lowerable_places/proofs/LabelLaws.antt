@@ -1,5 +1,5 @@
 -- The labels of a switch, one statement after the other.
-use Rattle.std.proofs.Common.{◌≡◌, ℕ, ◌+◌, ◌<◌, ◌≤◌, Bool, true, false, ◌&&◌, ◌||◌, not, List, [], ◌∷◌, length, drop, get_or, refl, sym, ap, ◌∙◌}
+use Rattle.std.proofs.Common.{◌≡◌, ℕ, ◌+◌, ◌<◌, ◌≤◌, Bool, true, false, ◌&&◌, ◌||◌, not, List, [], ◌∷◌, length, drop, get_or, refl, sym, ap, ◌∙◌, arith}
 use Rattle.std.specs.Prelude.{int_le}
 use Rattle.std.proofs.lemmas.List.{at_drop_all}
 use Rattle.cf_base.specs.declared.kind.Kind.{Kind}
@@ -88,6 +88,10 @@ module _ (x : Scene) (all : List CodePlain) (i : ℕ) (whole : Bool) where
         none label.No = refl
 
 -- ---- no label twice
+
+pub none_left : (ss : List CodePlain) → length ss ≡ 0 → ss ≡ []
+none_left [] e = refl
+none_left (s ∷ ss) e = absurd (omega (arith, e))
 
 module _ (x : Scene) (rest : List CodePlain) (whole : Bool) (so_far : labels_differ [] (statements_in x rest) ≡ whole) where
   module _ (s : CodePlain) (others : List CodePlain) (is : rest ≡ s ∷ others) (l : Label) (at : l ≡ label_in (statement_in x s)) (b : Bool) (lack : b ≡ lacks l (statements_in x others)) where
