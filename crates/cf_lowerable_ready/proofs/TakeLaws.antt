@@ -3,12 +3,13 @@ use Rattle.std.proofs.Common.{◌≡◌, ℕ, Bool, List, [], ◌∷◌, map, Op
 use Rattle.cf_base.specs.declared.kind.Kind.TheVariants.{Char, Int}
 use Rattle.cf_types.specs.declared.ty.Fun.{Fun}
 use Rattle.cf_core.specs.Types.{Name, SourceType, void, integer, enumeration, class, pointer, reference, array, gives, data_member, function_member, without_const, type_eq, same_but_const}
-use Rattle.cf_core.specs.FromTypes.{Tables, type_of, taking, fun_type}
+use Rattle.cf_classes.specs.LinkName.{scope_code, enum_names}
+use Rattle.cf_core.specs.FromTypes.{Tables, type_of, taking, fun_type, class_code}
 use Rattle.cf_lower_types.specs.declared.form.Form.{Form}
 use Rattle.cf_lower_types.specs.declared.form.Form.TheVariants as form
 use Rattle.cf_lower_types.specs.declared.place.PlaceType.{PlaceType}
 use Rattle.cf_lower_types.specs.declared.place.PlaceType.TheVariants as place
-use Rattle.cf_lower_types.specs.Bare.{type_in}
+use Rattle.cf_lower_types.specs.Bare.{type_in, fun_at}
 use Rattle.cf_plain_kept.specs.Kept.{Kept, no_value, an_integer, a_place, a_member, an_object}
 use Rattle.cf_lowerable_ready.specs.Contents.{place_type, suits_if, is_member_of, has_no_value}
 use Rattle.cf_lowerable_ready.specs.Types.{stripped, outer_type}
@@ -108,26 +109,26 @@ module _ (tables : Tables) (x : Form) (k : Option Kept) (b : Bool) where
   at y is e = e ∙ sym (ap (λ z. suits_if (outer_type tables z) k) is)
 
   pub enumeration_takes : (n : ℕ) → x ≡ form.Enumeration n → b ≡ suits_if (integer Int) k → b ≡ suits_if (outer_type tables x) k
-  enumeration_takes n is e = at (form.Enumeration n) is (e ∙ as_enumeration _ k)
+  enumeration_takes n is e = at (form.Enumeration n) is (e ∙ as_enumeration (scope_code (enum_names tables.classes n)) k)
 
   pub reference_takes : (u : ℕ) → x ≡ form.Reference u → b ≡ suits_if (pointer (type_of tables u)) k → b ≡ suits_if (outer_type tables x) k
   reference_takes u is e = at (form.Reference u) is (e ∙ as_reference (type_of tables u) k)
 
   pub data_member_takes : (t c u : ℕ) → x ≡ form.DataMember c u → type_of tables t ≡ outer_type tables x → b ≡ is_member_of (type_of tables t) k → b ≡ suits_if (outer_type tables x) k
   data_member_takes t c u is of e =
-      at (form.DataMember c u) is (e ∙ ap (λ w. is_member_of w k) (of ∙ ap (outer_type tables) is) ∙ as_data_member _ _ k)
+      at (form.DataMember c u) is (e ∙ ap (λ w. is_member_of w k) (of ∙ ap (outer_type tables) is) ∙ as_data_member (class_code tables.classes c) (type_of tables u) k)
 
   pub function_member_takes : (t c f : ℕ) → x ≡ form.FunctionMember c f → type_of tables t ≡ outer_type tables x → b ≡ is_member_of (type_of tables t) k
       → b ≡ suits_if (outer_type tables x) k
   function_member_takes t c f is of e =
-      at (form.FunctionMember c f) is (e ∙ ap (λ w. is_member_of w k) (of ∙ ap (outer_type tables) is) ∙ as_function_member _ _ k)
+      at (form.FunctionMember c f) is (e ∙ ap (λ w. is_member_of w k) (of ∙ ap (outer_type tables) is) ∙ as_function_member (class_code tables.classes c) (fun_at tables f) k)
 
   module _ (e : b ≡ has_no_value k) where
     pub void_takes : x ≡ form.Void → b ≡ suits_if (outer_type tables x) k
     void_takes is = at form.Void is (e ∙ as_void k)
 
     pub class_takes : (c : ℕ) → x ≡ form.Class c → b ≡ suits_if (outer_type tables x) k
-    class_takes c is = at (form.Class c) is (e ∙ as_class _ k)
+    class_takes c is = at (form.Class c) is (e ∙ as_class (class_code tables.classes c) k)
 
     pub array_takes : (u n : ℕ) → x ≡ form.Array u n → b ≡ suits_if (outer_type tables x) k
     array_takes u n is = at (form.Array u n) is (e ∙ as_array (type_of tables u) n k)

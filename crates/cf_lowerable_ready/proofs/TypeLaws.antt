@@ -215,4 +215,4 @@ pub object_not : (t : SourceType) (b : Bool) → b ≡ not (is_code t) → b ≡
 object_not t b e not_so = ap (λ c. c && not (is_void t)) (sym not_so ∙ e)
 
 pub object_so : (t : SourceType) (b c : Bool) → b ≡ not (is_code t) → b ≡ true → c ≡ is_void t → not c ≡ is_object t
-object_so t b c e sure void = ap not void ∙ ap (λ d. d && not (is_void t)) (sym sure ∙ e)
+object_so t b c e sure nothing = ap not nothing ∙ ap (λ d. d && not (is_void t)) (sym sure ∙ e)
