@@ -7,24 +7,16 @@ use Rattle.cf_classes.specs.LinkName.{scope_code, enum_names}
 use Rattle.cf_core.specs.FromTypes.{Tables, type_of, taking, fun_type, class_code}
 use Rattle.cf_lower_types.specs.declared.form.Form.{Form}
 use Rattle.cf_lower_types.specs.declared.form.Form.TheVariants as form
-use Rattle.cf_lower_types.specs.declared.place.PlaceType.{PlaceType}
-use Rattle.cf_lower_types.specs.declared.place.PlaceType.TheVariants as place
-use Rattle.cf_lower_types.specs.Bare.{type_in, fun_at}
+use Rattle.cf_lower_types.specs.Bare.{fun_at}
 use Rattle.cf_plain_kept.specs.Kept.{Kept, no_value, an_integer, a_place, a_member, an_object}
-use Rattle.cf_lowerable_ready.specs.Contents.{place_type, suits_if, is_member_of, has_no_value}
+use Rattle.cf_lowerable_ready.specs.Contents.{suits_if, is_member_of, has_no_value}
 use Rattle.cf_lowerable_ready.specs.Types.{stripped, outer_type}
 use Rattle.cf_lowerable_ready.proofs.TypeLaws.{suits_by}
 
 -- ---- types of places
 
-bare_place : (tables : Tables) (p : PlaceType) → type_in tables p ≡ without_const (place_type tables p)
-bare_place tables (place.Of t) = refl
-bare_place tables place.Void = refl
-bare_place tables place.Character = refl
-bare_place tables (place.Characters n) = refl
-
-pub same_types : (tables : Tables) (p q : PlaceType) (b : Bool) → b ≡ type_eq (type_in tables p) (type_in tables q) → b ≡ same_but_const (place_type tables p) (place_type tables q)
-same_types tables p q b e = e ∙ ap (λ t. type_eq t (type_in tables q)) (bare_place tables p) ∙ ap (type_eq (without_const (place_type tables p))) (bare_place tables q)
+pub same_types : (t u v w : SourceType) (b : Bool) → b ≡ type_eq v w → v ≡ without_const t → w ≡ without_const u → b ≡ same_but_const t u
+same_types t u v w b e first second = e ∙ ap (λ x. type_eq x w) first ∙ ap (type_eq (without_const t)) second
 
 -- ---- one form as another
 
@@ -146,9 +138,6 @@ pub taken_by : (t s o : SourceType) (k : Option Kept) (b : Bool) → s ≡ strip
 taken_by t s o k b bare is e = e ∙ stripped_takes t s o bare is k
 
 -- ---- of any place
-
-pub void_place_takes : (k : Option Kept) (b : Bool) → b ≡ has_no_value k → b ≡ suits_if void k
-void_place_takes k b e = e ∙ as_void k
 
 pub array_place_takes : (n : ℕ) (k : Option Kept) (b : Bool) → b ≡ has_no_value k → b ≡ suits_if (array (integer Char) n) k
 array_place_takes n k b e = e ∙ as_array (integer Char) n k

@@ -5,24 +5,23 @@ use Rattle.cf_base.specs.declared.kind.Kind.{Kind}
 use Rattle.cf_types.specs.declared.ty.Fun.{Fun}
 use Rattle.cf_types.specs.declared.ty.Ty.{Ty}
 use Rattle.cf_types.specs.declared.ty.Ty.TheVariants as ty
-use Rattle.cf_core.specs.Types.{SourceType, void, gives, const, is_void, result as result_type}
+use Rattle.cf_core.specs.Types.{SourceType, void, gives, const, without_const, is_void, result as result_type}
 use Rattle.cf_core.specs.FromTypes.{Tables, type_of, type_step, taking, fun_type}
 use Rattle.cf_core.specs.Places.{is_reference}
 use Rattle.cf_lower.specs.Kept.{within as lower_within}
 use Rattle.cf_lower_kept.specs.Ready.{names_well, has_objects, is_code, is_object}
 use Rattle.cf_lower_types.specs.declared.form.Form.{Form}
 use Rattle.cf_lower_types.specs.declared.form.Form.TheVariants as form
-use Rattle.cf_lower_types.specs.declared.place.PlaceType.{PlaceType}
-use Rattle.cf_lower_types.specs.declared.place.PlaceType.TheVariants as place
-use Rattle.cf_lower_types.specs.Bare.{type_in, IsNoFunction}
+use Rattle.cf_lower_types.specs.Bare.{IsNoFunction}
 use Rattle.cf_lower_types.specs.Forms.{under_const, target_in, function_in}
 use Rattle.cf_lower_types.proofs.FunctionLaws.{is_function, is_none, result_at}
 use Rattle.cf_plain_kept.specs.Kept.{Kept, an_integer, a_place, a_member, named, kept_of, decayed, converted, suits, of_kind, value_of}
 use Rattle.cf_lowerable_types.specs.declared.kinds.Kinds.{Kinds}
 use Rattle.cf_lowerable_types.specs.Kinds.{has_kind}
 use Rattle.cf_lowerable_types.proofs.Layers.{without_void}
+use Rattle.cf_lowerable_ready.specs.declared.content.Place.TheVariants as place
 use Rattle.cf_lowerable_ready.specs.declared.content.Content.TheVariants as content
-use Rattle.cf_lowerable_ready.specs.Contents.{known, place_type, valued}
+use Rattle.cf_lowerable_ready.specs.Contents.{known, valued}
 use Rattle.cf_lowerable_ready.specs.Types.{stripped, outer_type, OfFunction, IsKnown}
 
 same : {A : Type 0} (a b : A) → Some a ≡ Some b → a ≡ b
@@ -205,11 +204,8 @@ value_given t k e = ap (λ j. Some (valued j)) e ∙ ap Some (value_is t)
 
 -- ---- objects
 
-pub void_at : (tables : Tables) (p : PlaceType) (b : Bool) → b ≡ is_void (type_in tables p) → b ≡ is_void (place_type tables p)
-void_at tables (place.Of t) b e = e ∙ without_void (type_of tables t)
-void_at tables place.Void b e = e
-void_at tables place.Character b e = e
-void_at tables (place.Characters n) b e = e
+pub void_at : (t u : SourceType) (b : Bool) → b ≡ is_void u → u ≡ without_const t → b ≡ is_void t
+void_at t u b e bare = e ∙ ap is_void bare ∙ without_void t
 
 pub object_not : (t : SourceType) (b : Bool) → b ≡ not (is_code t) → b ≡ false → false ≡ is_object t
 object_not t b e not_so = ap (λ c. c && not (is_void t)) (sym not_so ∙ e)

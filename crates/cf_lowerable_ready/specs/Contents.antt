@@ -1,21 +1,20 @@
 -- What registers hold, in the code's types.
 use Rattle.std.specs.Prelude.{ℕ, Bool, true, false, ◌==◌, if◌then◌else◌, List, Option, Some, None, slice_get}
 use Rattle.cf_base.specs.declared.kind.Kind.TheVariants.{Char}
-use Rattle.cf_core.specs.Types.{SourceType, void, integer, array, same_but_const}
+use Rattle.cf_core.specs.Types.{SourceType, integer, array, same_but_const}
 use Rattle.cf_core.specs.FromTypes.{Tables, type_of}
 use Rattle.cf_plain.specs.Plain.{Register}
 use Rattle.cf_plain_kept.specs.Kept.{Kept, no_value, an_integer, a_place, a_member, an_object, Keeping, common, suits}
-use Rattle.cf_lower_types.specs.declared.place.PlaceType.{PlaceType}
-use Rattle.cf_lower_types.specs.declared.place.PlaceType.TheVariants as place
 use Rattle.cf_lowerable_types.specs.Kinds.{has_kind}
+use Rattle.cf_lowerable_ready.specs.declared.content.Place.{Place}
+use Rattle.cf_lowerable_ready.specs.declared.content.Place.TheVariants as place
 use Rattle.cf_lowerable_ready.specs.declared.content.Content.{Content}
 use Rattle.cf_lowerable_ready.specs.declared.content.Content.TheVariants as content
 use Rattle.cf_lowerable_ready.specs.declared.contents.Contents.{Contents}
 
 -- the type of a place, with its const
-abbrev pub place_type : Tables → PlaceType → SourceType
+abbrev pub place_type : Tables → Place → SourceType
 place_type tables (place.Of t) = type_of tables t
-place_type tables place.Void = void
 place_type tables place.Character = integer Char
 place_type tables (place.Characters n) = array (integer Char) n
 

@@ -2,6 +2,8 @@
 
 ghost use Rattle.std.specs.Prelude.{◌≡◌};
 ghost use Rattle.cf_core.specs.FromTypes.{Tables as TablesOf};
+ghost use Rattle.cf_core.specs.Types as types;
+ghost use Rattle.cf_lower_types.specs.Bare.{type_in};
 ghost use Rattle.cf_plain_kept.specs.Kept as definition;
 ghost use Rattle.cf_lowerable_ready.specs.Contents as spec;
 ghost use Rattle.cf_lowerable_ready.specs.Contents.{known};
@@ -9,6 +11,26 @@ ghost use Rattle.cf_lowerable_ready.specs.Contents.{known};
 use cf_lower_types::PlaceType;
 use cf_lowerable_types::Kinds;
 use cf_types::TyId;
+
+/// The type of a place: one of the file's types, or one that a literal has.
+#[derive(Clone, Copy, Debug, PartialEq, Eq)]
+pub enum Place {
+    Of(TyId),
+    Character,
+    /// An array of so many characters.
+    Characters(u64),
+}
+
+/// The same without const.
+pub fn place_of(place: &Place) -> PlaceType
+    ensures { (tables : TablesOf) → type_in tables result ≡ types.without_const (spec.place_type tables place.now) }
+{
+    match place {
+        Place::Of(id) => PlaceType::Of(*id),
+        Place::Character => PlaceType::Character,
+        Place::Characters(count) => PlaceType::Characters(*count),
+    }
+}
 
 /// What a register holds behind the action that has set it.
 #[derive(Clone, Copy, Debug, PartialEq, Eq)]
@@ -20,7 +42,7 @@ pub enum Content {
     /// An integer that is a value of these types.
     Number(Kinds),
     /// A place of this type or a pointer to one; of a function's type, the function.
-    Place(PlaceType),
+    Place(Place),
     /// A pointer to a member, of this type.
     Member(TyId),
     /// The object of the local of this number and type, which has no first value yet.

@@ -14,14 +14,14 @@ ghost use Rattle.cf_lowerable_ready.specs.Contents.{known};
 ghost use Rattle.cf_lowerable_ready.specs.Given as spec;
 ghost use Rattle.cf_lowerable_ready.specs.Scenes.{action_in, knowing, locals_in, result_in};
 
-use crate::content::Content;
+use crate::content::{Content, Place};
 use crate::contents::Contents;
 use crate::operands::{changed, filled, moved, operated, pointed, tested, unary};
 use crate::pointers::{begun, converted, from_void, pointed_call, pointer_operated, stored};
 use crate::scene::{Scene, local_type};
 use crate::types::{called, decayed, decayed_at, named, read_at};
 use cf_base::{Bytes, Memory};
-use cf_lower_types::{PlaceType, Tables};
+use cf_lower_types::Tables;
 use cf_lowerable_types::kinds_fitting;
 use cf_plain::Action;
 use cf_types::TyId;
@@ -47,7 +47,7 @@ fn literal(text: &Bytes) -> Content
     ensures { (tables : TablesOf) → known tables result ≡ Some (definition.a_place (types.array (types.integer kind.Char) (length text.now))) }
 {
     let count = text.len();
-    Content::Place(PlaceType::Characters(count as u64))
+    Content::Place(Place::Characters(count as u64))
 }
 
 /// What the name of a local gives.
@@ -170,7 +170,7 @@ pub fn kept_by(x: &Scene<'_>, cs: &Contents, a: &Action) -> Result<Content, Memo
         Action::Text { bytes, .. } => Ok(literal(bytes)),
         Action::Local { number } => Ok(named_local(x, *number)),
         Action::Static { ty, .. } => Ok(named(x.tables, *ty)),
-        Action::Function { ty, .. } => Ok(Content::Place(PlaceType::Of(*ty))),
+        Action::Function { ty, .. } => Ok(Content::Place(Place::Of(*ty))),
         Action::Read { place } => Ok(read(x.tables, &held(x, cs, *place))),
         Action::Dereference { pointer } => Ok(pointed(&held(x, cs, *pointer))),
         Action::Decay { array } => Ok(first_element(x.tables, &held(x, cs, *array))),

@@ -6,11 +6,11 @@ ghost use Rattle.cf_plain_kept.specs.Kept as definition;
 ghost use Rattle.cf_lowerable_types.specs.Kinds.{has_kind};
 ghost use Rattle.cf_lowerable_ready.specs.Contents.{in_both, known, place_type};
 
-use crate::content::Content;
+use crate::content::{Content, Place};
 use crate::takes::same_but_const;
 use cf_base::Memory;
 use cf_lower_same::same_bare;
-use cf_lower_types::{PlaceType, Tables};
+use cf_lower_types::Tables;
 use cf_lowerable_types::{Kinds, meet_kinds};
 use cf_types::TyId;
 
@@ -69,7 +69,7 @@ fn both_numbers(kinds: &Kinds, b: &Content) -> Content
 
 /// Where the first is a place.
 #[tactic(auto, using(crate::proofs::Meetings::chosen_same, crate::proofs::Meetings::chosen_other))]
-fn both_places(tables: &Tables<'_>, place: &PlaceType, b: &Content) -> Result<Content, Memory>
+fn both_places(tables: &Tables<'_>, place: &Place, b: &Content) -> Result<Content, Memory>
     ensures { IfOk result (λ c. known tables.now c ≡ in_both (Some (definition.a_place (place_type tables.now place.now))) (known tables.now b.now)) }
 {
     match b {

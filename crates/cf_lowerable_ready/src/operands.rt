@@ -9,12 +9,11 @@ ghost use Rattle.cf_types.specs.Operators as operators;
 ghost use Rattle.cf_lowerable_types.specs.Kinds.{has_kind as kind_in};
 ghost use Rattle.cf_lowerable_ready.specs.Contents.{known, place_type};
 
-use crate::content::{Content, is_integer};
+use crate::content::{Content, Place, is_integer};
 use crate::takes::has_kind;
 use crate::types::of_kind;
 use cf_base::{Arith, Kind};
 use cf_core::Change;
-use cf_lower_types::PlaceType;
 use cf_lowerable_types::{Kinds, all_kinds};
 
 // ---- pointers and integers
@@ -34,7 +33,7 @@ pub fn pointed(content: &Content) -> Content
 }
 
 /// A pointer that is moved by an integer.
-fn with_number(place: &PlaceType, right: &Content) -> Content
+fn with_number(place: &Place, right: &Content) -> Content
     ensures { (tables : TablesOf) → known tables result ≡ definition.forth (Some (definition.a_place (place_type tables place.now))) (known tables right.now) }
 {
     match right {

@@ -9,7 +9,7 @@ ghost use Rattle.cf_lowerable_types.specs.Kinds.{has_kind as kind_in};
 ghost use Rattle.cf_lowerable_ready.specs.Contents.{known, place_type};
 ghost use Rattle.cf_lowerable_ready.specs.Types.{IsKnown, outer_type};
 
-use crate::content::{Content, is_integer};
+use crate::content::{Content, Place, is_integer};
 use crate::forms::inner;
 use crate::operands::{forth, moved};
 use crate::takes::{place_takes, same_but_const, type_takes};
@@ -17,7 +17,7 @@ use crate::types::{called, is_nothing, of_kind};
 use cf_base::{Kind, Memory};
 use cf_core::PointerOperator;
 use cf_lower_same::same_bare;
-use cf_lower_types::{Form, PlaceType, Tables};
+use cf_lower_types::{Form, Tables};
 use cf_lowerable_types::Kinds;
 use cf_types::TyId;
 
@@ -48,7 +48,7 @@ fn place_if(test: bool, to: TyId) -> Content
     ensures { (tables : TablesOf) → known tables result ≡ definition.given test (definition.a_place (type_of tables to)) }
 {
     if test {
-        Content::Place(PlaceType::Of(to))
+        Content::Place(Place::Of(to))
     } else {
         Content::Unset
     }
@@ -82,11 +82,7 @@ fn numbers_compared(kinds: &Kinds, right: &Content) -> Content
 }
 
 #[tactic(auto, using(crate::proofs::GivenLaws::test_of))]
-fn places_compared(
-    tables: &Tables<'_>,
-    place: &PlaceType,
-    right: &Content,
-) -> Result<Content, Memory>
+fn places_compared(tables: &Tables<'_>, place: &Place, right: &Content) -> Result<Content, Memory>
     ensures { IfOk result (λ c. known tables.now c ≡ definition.compared (Some (definition.a_place (place_type tables.now place.now))) (known tables.now right.now)) }
 {
     match right {
@@ -165,10 +161,10 @@ pub fn pointer_operated(
 
 /// Whether a pointer to places of one type is converted to one to those of another (4.6).
 #[tactic(auto, using(crate::proofs::GivenLaws::either_first, crate::proofs::GivenLaws::either_second))]
-fn converts(tables: &Tables<'_>, to: TyId, from: &PlaceType) -> Result<bool, Memory>
+fn converts(tables: &Tables<'_>, to: TyId, from: &Place) -> Result<bool, Memory>
     ensures { IfOk result (λ may. may ≡ (types.is_void (type_of tables.now to) || types.same_but_const (place_type tables.now from.now) (type_of tables.now to))) }
 {
-    let target = PlaceType::Of(to);
+    let target = Place::Of(to);
     if is_nothing(tables, &target)? {
         return Ok(true);
     }
@@ -178,11 +174,11 @@ fn converts(tables: &Tables<'_>, to: TyId, from: &PlaceType) -> Result<bool, Mem
 
 /// A pointer that is converted to one to places of this type.
 #[tactic(auto, using(crate::proofs::Meetings::chosen_same, crate::proofs::Meetings::chosen_other))]
-fn place_converted(tables: &Tables<'_>, to: TyId, from: &PlaceType) -> Result<Content, Memory>
+fn place_converted(tables: &Tables<'_>, to: TyId, from: &Place) -> Result<Content, Memory>
     ensures { IfOk result (λ c. known tables.now c ≡ definition.to_place (type_of tables.now to) (Some (definition.a_place (place_type tables.now from.now)))) }
 {
     if converts(tables, to, from)? {
-        Ok(Content::Place(PlaceType::Of(to)))
+        Ok(Content::Place(Place::Of(to)))
     } else {
         Ok(Content::Unset)
     }
@@ -193,7 +189,7 @@ fn to_place(tables: &Tables<'_>, to: TyId, content: &Content) -> Result<Content,
     ensures { IfOk result (λ c. known tables.now c ≡ definition.to_place (type_of tables.now to) (known tables.now content.now)) }
 {
     match content {
-        Content::Number(_) => Ok(Content::Place(PlaceType::Of(to))),
+        Content::Number(_) => Ok(Content::Place(Place::Of(to))),
         Content::Place(from) => {
             let made = place_converted(tables, to, from)?;
             Ok(made)
@@ -369,7 +365,7 @@ pub fn pointed_call(tables: &Tables<'_>, ty: TyId, pointer: &Content) -> Result<
 {
     match pointer {
         Content::Place(own) => {
-            let same = same_but_const(tables, own, &PlaceType::Of(ty))?;
+            let same = same_but_const(tables, own, &Place::Of(ty))?;
             Ok(call_if(tables, same, ty))
         }
         Content::Unset => Ok(Content::Unset),

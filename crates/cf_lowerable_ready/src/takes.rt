@@ -7,11 +7,11 @@ ghost use Rattle.cf_plain_kept.specs.Kept as definition;
 ghost use Rattle.cf_lowerable_ready.specs.Contents.{is_member_of, known, place_type, suits_if};
 ghost use Rattle.cf_lowerable_ready.specs.Types.{outer_type};
 
-use crate::content::{Content, is_no_value};
+use crate::content::{Content, Place, is_no_value, place_of};
 use crate::forms::inner;
 use cf_base::{Kind, Memory};
 use cf_lower_same::{same_bare, same_places};
-use cf_lower_types::{Form, PlaceType, Tables};
+use cf_lower_types::{Form, Tables};
 use cf_types::TyId;
 
 /// Whether an integer of this type takes what a register holds.
@@ -30,11 +30,12 @@ pub fn has_kind(kind: Kind, content: &Content) -> bool
 }
 
 /// Whether two types of places are the same but for const.
-#[tactic(auto, using(crate::proofs::TakeLaws::same_types))]
-pub fn same_but_const(tables: &Tables<'_>, a: &PlaceType, b: &PlaceType) -> Result<bool, Memory>
+pub fn same_but_const(tables: &Tables<'_>, a: &Place, b: &Place) -> Result<bool, Memory>
     ensures { IfOk result (λ same. same ≡ types.same_but_const (place_type tables.now a.now) (place_type tables.now b.now)) }
 {
-    let same = same_places(tables, a, b)?;
+    let first = place_of(a);
+    let second = place_of(b);
+    let same = same_places(tables, &first, &second)?;
     Ok(same)
 }
 
@@ -44,7 +45,7 @@ fn takes_place(tables: &Tables<'_>, to: TyId, content: &Content) -> Result<bool,
 {
     match content {
         Content::Place(place) => {
-            let same = same_but_const(tables, place, &PlaceType::Of(to))?;
+            let same = same_but_const(tables, place, &Place::Of(to))?;
             Ok(same)
         }
         Content::Unset => Ok(false),
@@ -115,21 +116,16 @@ pub fn type_takes(tables: &Tables<'_>, id: TyId, content: &Content) -> Result<bo
 }
 
 /// The same of any place.
-#[tactic(auto, using(crate::proofs::TakeLaws::void_place_takes, crate::proofs::TakeLaws::array_place_takes))]
-pub fn place_takes(
-    tables: &Tables<'_>,
-    place: &PlaceType,
-    content: &Content,
-) -> Result<bool, Memory>
+#[tactic(auto, using(crate::proofs::TakeLaws::array_place_takes))]
+pub fn place_takes(tables: &Tables<'_>, place: &Place, content: &Content) -> Result<bool, Memory>
     ensures { IfOk result (λ takes. takes ≡ suits_if (place_type tables.now place.now) (known tables.now content.now)) }
 {
     match place {
-        PlaceType::Of(id) => {
+        Place::Of(id) => {
             let takes = type_takes(tables, *id, content)?;
             Ok(takes)
         }
-        PlaceType::Character => Ok(has_kind(Kind::Char, content)),
-        PlaceType::Void => Ok(is_no_value(content)),
-        PlaceType::Characters(_) => Ok(is_no_value(content)),
+        Place::Character => Ok(has_kind(Kind::Char, content)),
+        Place::Characters(_) => Ok(is_no_value(content)),
     }
 }

@@ -10,10 +10,10 @@ ghost use Rattle.cf_lowerable_ready.specs.Contents as spec;
 ghost use Rattle.cf_lowerable_ready.specs.Contents.{known, place_type};
 ghost use Rattle.cf_lowerable_ready.specs.Types.{IsKnown, outer_type};
 
-use crate::content::Content;
+use crate::content::{Content, Place, place_of};
 use crate::forms::{inner, under_const};
 use cf_base::{Kind, Memory};
-use cf_lower_types::{Form, PlaceType, Tables};
+use cf_lower_types::{Form, Tables};
 use cf_lowerable_types::{entry, is_code, is_reference, is_void_place, kinds_within};
 use cf_types::{FunId, Ty, TyId};
 
@@ -53,8 +53,8 @@ pub fn named(tables: &Tables<'_>, id: TyId) -> Content
 {
     let ty = entry(tables, id);
     match target_in(&ty) {
-        Some(target) => Content::Place(PlaceType::Of(target)),
-        None => Content::Place(PlaceType::Of(id)),
+        Some(target) => Content::Place(Place::Of(target)),
+        None => Content::Place(Place::Of(id)),
     }
 }
 
@@ -81,8 +81,8 @@ fn scalar_in(tables: &Tables<'_>, id: TyId, form: Form) -> Content
     match form {
         Form::Integer(kind) => of_kind(kind),
         Form::Enumeration(_) => of_kind(Kind::Int),
-        Form::Pointer(target) => Content::Place(PlaceType::Of(target)),
-        Form::Reference(target) => Content::Place(PlaceType::Of(target)),
+        Form::Pointer(target) => Content::Place(Place::Of(target)),
+        Form::Reference(target) => Content::Place(Place::Of(target)),
         Form::DataMember(_, _) => Content::Member(id),
         Form::FunctionMember(_, _) => Content::Member(id),
         Form::Void => Content::Unset,
@@ -101,14 +101,13 @@ pub fn scalar_of(tables: &Tables<'_>, id: TyId) -> Content
 }
 
 /// What is read at a place of this type.
-pub fn read_at(tables: &Tables<'_>, place: &PlaceType) -> Content
+pub fn read_at(tables: &Tables<'_>, place: &Place) -> Content
     ensures { known tables.now result ≡ definition.kept_of (place_type tables.now place.now) }
 {
     match place {
-        PlaceType::Of(id) => scalar_of(tables, *id),
-        PlaceType::Character => of_kind(Kind::Char),
-        PlaceType::Void => Content::Unset,
-        PlaceType::Characters(_) => Content::Unset,
+        Place::Of(id) => scalar_of(tables, *id),
+        Place::Character => of_kind(Kind::Char),
+        Place::Characters(_) => Content::Unset,
     }
 }
 
@@ -178,8 +177,8 @@ fn decayed_in(tables: &Tables<'_>, id: TyId, form: Form) -> Content
 {
     let _tables = tables;
     match form {
-        Form::Array(element, _) => Content::Place(PlaceType::Of(element)),
-        Form::Function(_) => Content::Place(PlaceType::Of(id)),
+        Form::Array(element, _) => Content::Place(Place::Of(element)),
+        Form::Function(_) => Content::Place(Place::Of(id)),
         Form::Void => Content::Unset,
         Form::Integer(_) => Content::Unset,
         Form::Enumeration(_) => Content::Unset,
@@ -200,14 +199,13 @@ pub fn decayed(tables: &Tables<'_>, id: TyId) -> Content
 }
 
 /// The same of any place.
-pub fn decayed_at(tables: &Tables<'_>, place: &PlaceType) -> Content
+pub fn decayed_at(tables: &Tables<'_>, place: &Place) -> Content
     ensures { known tables.now result ≡ definition.decayed (place_type tables.now place.now) }
 {
     match place {
-        PlaceType::Of(id) => decayed(tables, *id),
-        PlaceType::Characters(_) => Content::Place(PlaceType::Character),
-        PlaceType::Void => Content::Unset,
-        PlaceType::Character => Content::Unset,
+        Place::Of(id) => decayed(tables, *id),
+        Place::Characters(_) => Content::Place(Place::Character),
+        Place::Character => Content::Unset,
     }
 }
 
@@ -240,41 +238,39 @@ pub fn has_objects(tables: &Tables<'_>, id: TyId) -> bool
 }
 
 /// The same of any place.
-pub fn place_has_objects(tables: &Tables<'_>, place: &PlaceType) -> bool
+pub fn place_has_objects(tables: &Tables<'_>, place: &Place) -> bool
     ensures { result ≡ ready.has_objects (place_type tables.now place.now) }
 {
     match place {
-        PlaceType::Of(id) => has_objects(tables, *id),
-        PlaceType::Void => true,
-        PlaceType::Character => true,
-        PlaceType::Characters(_) => true,
+        Place::Of(id) => has_objects(tables, *id),
+        Place::Character => true,
+        Place::Characters(_) => true,
     }
 }
 
 /// Whether a place is no function.
-pub fn is_no_code(tables: &Tables<'_>, place: &PlaceType) -> bool
+pub fn is_no_code(tables: &Tables<'_>, place: &Place) -> bool
     ensures { result ≡ ready.is_no_code (place_type tables.now place.now) }
 {
     match place {
-        PlaceType::Of(id) => !is_code(tables, *id),
-        PlaceType::Void => true,
-        PlaceType::Character => true,
-        PlaceType::Characters(_) => true,
+        Place::Of(id) => !is_code(tables, *id),
+        Place::Character => true,
+        Place::Characters(_) => true,
     }
 }
 
 /// Whether places are of type `void`.
-#[tactic(auto, using(crate::proofs::TypeLaws::void_at))]
-pub fn is_nothing(tables: &Tables<'_>, place: &PlaceType) -> Result<bool, Memory>
+pub fn is_nothing(tables: &Tables<'_>, place: &Place) -> Result<bool, Memory>
     ensures { IfOk result (λ void. void ≡ types.is_void (place_type tables.now place.now)) }
 {
-    let void = is_void_place(tables, place)?;
+    let bare = place_of(place);
+    let void = is_void_place(tables, &bare)?;
     Ok(void)
 }
 
 /// Whether pointers to places of this type can be moved.
 #[tactic(auto, using(crate::proofs::TypeLaws::object_so, crate::proofs::TypeLaws::object_not))]
-pub fn is_object(tables: &Tables<'_>, place: &PlaceType) -> Result<bool, Memory>
+pub fn is_object(tables: &Tables<'_>, place: &Place) -> Result<bool, Memory>
     ensures { IfOk result (λ is. is ≡ ready.is_object (place_type tables.now place.now)) }
 {
     if !is_no_code(tables, place) {
