@@ -1,13 +1,14 @@
 //! What a register holds.
 
-ghost use Rattle.std.specs.Prelude.{◌≡◌};
+ghost use Rattle.std.specs.Prelude.{◌≡◌, ◌<◌, ℕ, length, OnOk};
 ghost use Rattle.cf_core.specs.FromTypes.{Tables as TablesOf};
 ghost use Rattle.cf_core.specs.Types as types;
 ghost use Rattle.cf_lower_types.specs.Bare.{type_in};
 ghost use Rattle.cf_plain_kept.specs.Kept as definition;
 ghost use Rattle.cf_lowerable_ready.specs.Contents as spec;
-ghost use Rattle.cf_lowerable_ready.specs.Contents.{known};
+ghost use Rattle.cf_lowerable_ready.specs.Contents.{content_at, known};
 
+use cf_base::Memory;
 use cf_lower_types::PlaceType;
 use cf_lowerable_types::Kinds;
 use cf_types::TyId;
@@ -75,4 +76,15 @@ pub fn is_no_value(content: &Content) -> bool
         | Content::Member(_)
         | Content::Object(_, _) => false,
     }
+}
+
+/// Makes room up to an index, with nothing held there.
+pub fn reach(all: &mut Vec<Content>, index: usize) -> Result<(), Memory>
+    ensures same { (q : ℕ) → OnOk result (content_at all.new.items q ≡ content_at all.old.items q) }
+    ensures long { OnOk result (index < length all.new.items) }
+{
+    while all.len() <= index {
+        all.push(Content::Unset)?;
+    }
+    Ok(())
 }

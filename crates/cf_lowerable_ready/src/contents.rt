@@ -1,11 +1,11 @@
 //! What all registers hold.
 
-ghost use Rattle.std.specs.Prelude.{◌≡◌, ◌==◌, ◌<◌, ℕ, length, slice_set, IfOk, OnOk};
+ghost use Rattle.std.specs.Prelude.{◌≡◌, ◌==◌, ◌<◌, length, slice_set, IfOk, OnOk};
 ghost use Rattle.cf_core.specs.FromTypes.{Tables as TablesOf};
 ghost use Rattle.cf_plain_kept.specs.Kept as definition;
 ghost use Rattle.cf_lowerable_ready.specs.Contents.{content_at, keeping, known, put as put_in, without};
 
-use crate::content::Content;
+use crate::content::{Content, reach};
 use crate::meeting::both;
 use cf_base::Memory;
 use cf_lower_types::Tables;
@@ -25,17 +25,6 @@ fn at(all: &[Content], index: usize) -> Content
         Some(content) => *content,
         None => Content::Unset,
     }
-}
-
-/// Makes room up to an index, with nothing held there.
-fn reach(all: &mut Vec<Content>, index: usize) -> Result<(), Memory>
-    ensures same { (q : ℕ) → OnOk result (content_at all.new.items q ≡ content_at all.old.items q) }
-    ensures long { OnOk result (index < length all.new.items) }
-{
-    while all.len() <= index {
-        all.push(Content::Unset)?;
-    }
-    Ok(())
 }
 
 /// Something else is held at an index.

@@ -1,6 +1,6 @@
 use Rattle.std.proofs.Common.{◌≡◌, ℕ, ◌+◌, ◌-◌, length}
 use Rattle.cf_lowerable_ready.specs.Contents.{content_at}
-use Rattle.cf_lowerable_ready.proofs.contents.reach.Given as goal
+use Rattle.cf_lowerable_ready.proofs.content.reach.Given as goal
 
 abbrev pub invariant-loop-all : goal.invariant-loop-all
 invariant-loop-all l = (q : ℕ) → content_at l.all.items q ≡ content_at l.initial.all.items q

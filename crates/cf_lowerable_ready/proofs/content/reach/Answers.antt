@@ -2,7 +2,7 @@ use Rattle.std.proofs.Common.{List, ap, ◌∙◌}
 use Rattle.cf_lowerable_ready.specs.declared.content.Content.{Content}
 use Rattle.cf_lowerable_ready.specs.Contents.{content_at}
 use Rattle.cf_lowerable_ready.proofs.Lists.{at_longer}
-use Rattle.cf_lowerable_ready.proofs.contents.reach.Goals as goal
+use Rattle.cf_lowerable_ready.proofs.content.reach.Goals as goal
 
 pub loop-all-preserved : goal.loop-all-preserved
 loop-all-preserved c = λ q. ap (λ (l : List Content). content_at l q) c.in_ok-push.ensures.items ∙ at_longer c.loop-all.all.items q ∙ c.loop-all.invariant q
