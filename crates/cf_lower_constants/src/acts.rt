@@ -70,7 +70,7 @@ fn changed(
 }
 
 /// Whether what a register holds is neither 0 nor null, where that is known (4.1, 5.3).
-pub(crate) fn decided(x: &Site<'_>, known: &Knowns, register: u32) -> Result<Option<bool>, Memory>
+pub fn decided(x: &Site<'_>, known: &Knowns, register: u32) -> Result<Option<bool>, Memory>
     ensures { IfOk result (λ given. given ≡ definition.holds_truth (told_all x.now known.now register)) }
 {
     let held = known.get(x.alloc, register)?;
@@ -139,7 +139,7 @@ fn addressed(x: &Site<'_>, known: &Knowns, ty: TyId, operand: u32) -> Result<Kno
 }
 
 /// What a register holds that is set by an action.
-pub(crate) fn known_by(x: &Site<'_>, known: &Knowns, a: &Action) -> Result<Known, Memory>
+pub fn known_by(x: &Site<'_>, known: &Knowns, a: &Action) -> Result<Known, Memory>
     ensures { IfOk result (λ given. told x.now given ≡ definition.known_by (classes_of x.now.tables.now) x.now.owner.now (told_all x.now known.now) (action_at x.now a.now)) }
 {
     match a {

@@ -14,5 +14,9 @@ mod site;
 mod stores;
 mod walk;
 
+pub use acts::{decided, known_by};
+pub use known::{Fact, Known, Target};
+pub use numbers::{fits, number_of};
+pub use registers::Knowns;
 pub use site::Site;
 pub use walk::initialiser;

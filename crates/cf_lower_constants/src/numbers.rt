@@ -12,7 +12,7 @@ use cf_core::UnaryOperator;
 use cf_types::{convert_int, int_op};
 
 /// The number, if it is known to be one.
-pub(crate) fn number_of(fact: &Fact) -> Option<i64>
+pub fn number_of(fact: &Fact) -> Option<i64>
     ensures { result ≡ spec.fact_number fact.now }
 {
     match fact {
@@ -32,7 +32,7 @@ pub(crate) fn of_number(number: Option<i64>) -> Fact
 }
 
 /// Whether it is a value of the type (3.6.1).
-fn fits(kind: Kind, number: i64) -> bool
+pub fn fits(kind: Kind, number: i64) -> bool
     ensures { result ≡ integers.fits kind number }
 {
     match kind {

@@ -1,0 +1,13 @@
+pub mod BoundLaws
+pub mod Conversions
+pub mod DetailLaws
+pub mod EntryLaws
+pub mod Forms
+pub mod HeadLaws
+pub mod NameLaws
+pub mod PartLaws
+pub mod StateLaws
+pub mod StoreLaws
+pub mod Turns
+pub mod TypeLaws
+pub mod ValueLaws
