@@ -19,4 +19,5 @@ pub use known::{Fact, Known, Target};
 pub use numbers::{fits, number_of};
 pub use registers::Knowns;
 pub use site::Site;
+pub use stores::target_scalar;
 pub use walk::initialiser;

@@ -79,7 +79,7 @@ fn written_fact(
 }
 
 /// What the scalar at a place is, if an object of this type is one.
-fn target_scalar(tables: &Tables<'_>, target: &Target) -> Option<Scalar>
+pub fn target_scalar(tables: &Tables<'_>, target: &Target) -> Option<Scalar>
     ensures { option_map (sort_in tables.now) result ≡ sorts.sort_of (target_in tables.now target.now) }
 {
     match target {

@@ -1,1 +1,2 @@
-pub mod Tests
+pub mod Joins
+pub mod Units

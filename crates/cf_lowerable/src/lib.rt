@@ -1,6 +1,15 @@
-//! Whether what sequencing made of a file is lowered, as far as no law shows it yet: a test stands for each such law.
+//! Whether what sequencing makes of a file is lowered.
+//!
+//! Tests stand for laws that no one shows yet of each core that elaboration gives: `cores` has those of the core, which come before sequencing, `files` those
+//! of the plain file that are left then, `tested` all of them, and `laws` that a file which passes them is lowered (`Lowerable` of `cf_lower_program`).
 #![tactic(auto)]
 
-mod left;
+mod cores;
+mod files;
+mod laws;
+mod tested;
 
-pub use left::is_left;
+pub use cores::core_passes;
+pub use files::plain_passes;
+pub use laws::{tested_files_are_lowerable, tested_units_are_lowerable};
+pub use tested::is_lowerable;
