@@ -30,17 +30,16 @@ module _ (names : List Name) (x : PlainStatic) where
   and_true false = refl
 
   pub no_constant : x.is_constant ≡ false → false ≡ static_known names x
-  no_constant none = sym (ap (λ a. a && (start_is_known x && owner_in names x)) none)
+  no_constant none = sym (ap (λ a. (a && start_is_known x) && owner_in names x) none)
 
   module _ (there : Bool) (owned : there ≡ owner_in names x) where
     pub no_owner : there ≡ false → false ≡ static_known names x
-    no_owner none =
-        and_no x.is_constant (start_is_known x && owner_in names x) (sym (and_no (start_is_known x) (owner_in names x) (sym owned ∙ none)))
+    no_owner none = and_no (x.is_constant && start_is_known x) (owner_in names x) (sym owned ∙ none)
 
     pub both_there : (known : Bool) → x.is_constant ≡ true → there ≡ true → known ≡ start_is_known x → known ≡ static_known names x
     both_there known constant so is =
         is ∙ and_true (start_is_known x) ∙ ap (λ b. start_is_known x && b) (sym so ∙ owned)
-        ∙ sym (ap (λ a. a && (start_is_known x && owner_in names x)) constant)
+        ∙ sym (ap (λ a. (a && start_is_known x) && owner_in names x) constant)
 
 -- ---- of a file
 
