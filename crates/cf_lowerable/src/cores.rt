@@ -2,7 +2,7 @@
 
 ghost use Rattle.std.specs.Prelude.{◌≡◌, [], true, IfOk};
 ghost use Rattle.cf_core.specs.FromUnit.{file_of};
-ghost use Rattle.cf_lowerable.specs.Tested as tested;
+ghost use Rattle.cf_lowerable.specs.Tested as spec;
 
 use cf_base::Memory;
 use cf_core::CoreUnit;
@@ -12,7 +12,7 @@ use std::alloc::Global;
 /// Whether a core passes both tests.
 fn passes(alloc: Global, core: &CoreUnit) -> Result<bool, Memory>
     requires { core.now.classes.defined ≡ [] }
-    ensures { IfOk result (λ is. is ≡ tested.core_passes (file_of core.now)) }
+    ensures { IfOk result (λ is. is ≡ spec.core_passes (file_of core.now)) }
 {
     let fits = looks(alloc, core)?;
     if !fits {
@@ -26,8 +26,8 @@ fn passes(alloc: Global, core: &CoreUnit) -> Result<bool, Memory>
 /// shared and local at once, and each literal has a name of its own. It takes time and memory by the number of nodes. The file defines no class.
 pub fn core_passes(alloc: Global, core: &CoreUnit) -> Result<bool, Memory>
     requires { core.now.classes.defined ≡ [] }
-    ensures passed { IfOk result (λ is. is ≡ true → tested.CoreTested (file_of core.now)) }
-    ensures passes { tested.CoreTested (file_of core.now) → IfOk result (λ is. is ≡ true) }
+    ensures passed { IfOk result (λ is. is ≡ true → spec.CoreTested (file_of core.now)) }
+    ensures passes { spec.CoreTested (file_of core.now) → IfOk result (λ is. is ≡ true) }
 {
     looks_are_tests();
     let is = passes(alloc, core)?;

@@ -23,10 +23,7 @@ fn add_functions<'a>(names: &mut Names<'a>, functions: &'a [PlainFn]) -> Result<
 }
 
 /// The names of functions.
-pub(crate) fn names_of<'a>(
-    alloc: Global,
-    functions: &'a [PlainFn],
-) -> Result<Names<'a>, Memory>
+pub(crate) fn names_of<'a>(alloc: Global, functions: &'a [PlainFn]) -> Result<Names<'a>, Memory>
     ensures { (q : List ℕ) → IfOk result (λ names. is_in names q ≡ is_in (owned.names_of functions.now) q) }
 {
     let mut names = Names::new(alloc);

@@ -54,15 +54,24 @@ fn is_code(fact: &Fact) -> bool
     }
 }
 
-/// Whether it is what the scalar holds, of which there may be none.
+/// Whether it is what the scalar holds.
+fn is_of(scalar: &Scalar, fact: &Fact) -> bool
+    ensures { (tables : TablesOf) (t : TargetOf) (n : NameOf) → result ≡ starts.is_value_of (Some (sort_in tables scalar.now)) (fact_in tables fact.now t n) }
+{
+    match scalar {
+        Scalar::Number(_) => is_number(fact),
+        Scalar::Address(_) => is_address(fact),
+        Scalar::Code(_) => is_code(fact),
+    }
+}
+
+/// The same where it may be none.
 fn is_value_of(scalar: &Option<Scalar>, fact: &Fact) -> bool
     ensures { (tables : TablesOf) (t : TargetOf) (n : NameOf) → result ≡ starts.is_value_of (option_map (sort_in tables) scalar.now) (fact_in tables fact.now t n) }
 {
     match scalar {
         None => true,
-        Some(Scalar::Number(_)) => is_number(fact),
-        Some(Scalar::Address(_)) => is_address(fact),
-        Some(Scalar::Code(_)) => is_code(fact),
+        Some(scalar) => is_of(scalar, fact),
     }
 }
 

@@ -12,11 +12,7 @@ use cf_plain::Plain;
 
 /// Whether all that statements do is known, and what is known behind them.
 #[cycle(statements)]
-fn statements_known(
-    x: &Site<'_>,
-    all: &Items<Plain>,
-    known: &mut Knowns,
-) -> Result<bool, Memory>
+fn statements_known(x: &Site<'_>, all: &Items<Plain>, known: &mut Knowns) -> Result<bool, Memory>
     ensures known { IfOk result (λ are. are ≡ starts.starts_known (statements_at x.now all.now) x.now.owner.now (told_all x.now known.old)) }
     ensures behind { OnOk result (told_all x.now known.new ≡ definition.all_known_after [] (statements_at x.now all.now) x.now.owner.now (told_all x.now known.old)) }
 {
