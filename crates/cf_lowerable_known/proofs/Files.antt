@@ -3,14 +3,19 @@ use Rattle.std.proofs.Common.{◌≡◌, Bool, true, false, ◌&&◌, ◌||◌, 
 use Rattle.std.specs.Prelude.{bytes_eq}
 use Rattle.std.specs.List.{list_all, list_any}
 use Rattle.cf_classes.specs.ClassTable.{ClassTable}
+use Rattle.cf_core.specs.FromClasses.{signature_of}
 use Rattle.cf_core.specs.FromTypes.{Tables}
 use Rattle.cf_core.specs.Types.{Name}
 use Rattle.cf_name_list.specs.Names.{is_in}
 use Rattle.cf_plain.specs.declared.unit.PlainFn.{PlainFn}
 use Rattle.cf_plain.specs.declared.unit.PlainStatic.{PlainStatic as CodeStatic}
 use Rattle.cf_plain.specs.Plain.{PlainFunction, PlainStatic}
-use Rattle.cf_plain.specs.View.{Unit as PlainUnit, file_of, function_of, static_of}
-use Rattle.cf_lower_program.specs.Starts.{owner_there, statics_known}
+use Rattle.cf_plain.specs.View.{Unit as PlainUnit, file_of, function_of, plains_of, static_of}
+use Rattle.cf_lower.specs.Constants.{nothing_known}
+use Rattle.cf_lower.specs.Functions.{owner_of}
+use Rattle.cf_lower_constants.specs.declared.site.Site.{Site}
+use Rattle.cf_lower_constants.specs.Sites.{statements_at}
+use Rattle.cf_lower_program.specs.Starts.{owner_there, starts_known, statics_known}
 use Rattle.cf_types.specs.Table.{Table}
 use Rattle.cf_lowerable_known.specs.Owned.{all_known, names_of, owner_in, start_is_known, static_known}
 
@@ -40,6 +45,14 @@ module _ (names : List Name) (x : PlainStatic) where
     both_there known constant so is =
         is ∙ and_true (start_is_known x) ∙ ap (λ b. start_is_known x && b) (sym so ∙ owned)
         ∙ sym (ap (λ a. (a && start_is_known x) && owner_in names x) constant)
+
+-- ---- of an initialiser, by what its statements stand in
+
+pub start_is : (tables : Tables) (x : CodeStatic) (site : Site) (a : Bool) → site.tables.now ≡ tables → site.owner.now ≡ owner_of (static_of tables x)
+    → a ≡ starts_known (statements_at site x.start) site.owner.now nothing_known → a ≡ start_is_known (static_of tables x)
+start_is tables x site a at owner is =
+    is ∙ ap (λ (t : Tables). starts_known (plains_of t (signature_of t) x.start) site.owner.now nothing_known) at
+    ∙ ap (λ o. starts_known (plains_of tables (signature_of tables) x.start) o nothing_known) owner
 
 -- ---- of a file
 

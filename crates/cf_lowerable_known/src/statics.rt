@@ -1,6 +1,7 @@
 //! The initialisers of a file.
 
 ghost use Rattle.std.specs.Prelude.{◌≡◌, [], map, IfOk};
+ghost use Rattle.cf_lower.specs.Functions.{owner_of as its_owner};
 ghost use Rattle.cf_lower_program.specs.Starts as starts;
 ghost use Rattle.cf_lower_types.specs.Ordered.{IsOrdered};
 ghost use Rattle.cf_plain.specs.View.{file_of, static_of};
@@ -15,15 +16,24 @@ use cf_name_list::Names;
 use cf_plain::{PlainStatic, PlainUnit};
 use std::alloc::Global;
 
+/// What the statements of an initialiser stand in.
+fn site<'x>(alloc: Global, tables: &'x Tables<'x>, object: &'x PlainStatic) -> Site<'x>
+    ensures at { result.tables.now ≡ tables.now }
+    ensures owner { result.owner.now ≡ its_owner (static_of tables.now object.now) }
+{
+    let owner = owner_of(object);
+    Site {
+        alloc,
+        tables,
+        owner,
+    }
+}
+
 /// Whether all that the initialiser of a static object does is known.
 fn start_known(alloc: Global, tables: &Tables<'_>, object: &PlainStatic) -> Result<bool, Memory>
     ensures { IfOk result (λ is. is ≡ owned.start_is_known (static_of tables.now object.now)) }
 {
-    let site = Site {
-        alloc,
-        tables,
-        owner: owner_of(object),
-    };
+    let site = site(alloc, tables, object);
     let is = initialiser_known(&site, &object.start)?;
     Ok(is)
 }

@@ -5,6 +5,7 @@ pub mod EntryLaws
 pub mod Forms
 pub mod HeadLaws
 pub mod NameLaws
+pub mod Owners
 pub mod PartLaws
 pub mod StateLaws
 pub mod StoreLaws

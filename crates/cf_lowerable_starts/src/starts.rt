@@ -25,15 +25,24 @@ fn owner_of(object: &PlainStatic) -> &[u8]
     }
 }
 
+/// What the statements of an initialiser stand in.
+fn site<'x>(alloc: Global, tables: &'x Tables<'x>, object: &'x PlainStatic) -> Site<'x>
+    ensures at { result.tables.now ≡ tables.now }
+    ensures owner { result.owner.now ≡ its_owner (static_of tables.now object.now) }
+{
+    let owner = owner_of(object);
+    Site {
+        alloc,
+        tables,
+        owner,
+    }
+}
+
 /// Whether the initialiser of a static object does the same in the C.
 fn start_alike(alloc: Global, tables: &Tables<'_>, object: &PlainStatic) -> Result<bool, Memory>
     ensures { IfOk result (λ is. is ≡ alike.start_alike (static_of tables.now object.now)) }
 {
-    let site = Site {
-        alloc,
-        tables,
-        owner: owner_of(object),
-    };
+    let site = site(alloc, tables, object);
     let is = initialiser_alike(&site, object.name.as_slice(), &object.start)?;
     Ok(is)
 }

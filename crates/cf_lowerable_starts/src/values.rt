@@ -245,7 +245,31 @@ fn fits_code(tables: &Tables<'_>, ty: TyId, fact: &Fact, detail: Detail) -> Resu
     }
 }
 
-/// Whether it is a value of the scalar, of which there may be none.
+/// Whether it is a value of the scalar.
+fn fits_one(
+    tables: &Tables<'_>,
+    scalar: &Scalar,
+    fact: &Fact,
+    target: &Target,
+    detail: Detail,
+) -> Result<bool, Memory>
+    ensures { (n : NameOf) → IfOk result (λ is. is
+        ≡ alike.fits_scalar (Some (sort_in tables.now scalar.now)) (fact_in tables.now fact.now target.now n) (detail_in tables.now detail)) }
+{
+    match scalar {
+        Scalar::Number(kind) => Ok(fits_number(*kind, fact)),
+        Scalar::Address(to) => {
+            let is = fits_address(tables, to, fact, target)?;
+            Ok(is)
+        }
+        Scalar::Code(ty) => {
+            let is = fits_code(tables, *ty, fact, detail)?;
+            Ok(is)
+        }
+    }
+}
+
+/// The same where it may be none.
 pub(crate) fn fits_scalar(
     tables: &Tables<'_>,
     scalar: &Option<Scalar>,
@@ -258,13 +282,8 @@ pub(crate) fn fits_scalar(
 {
     match scalar {
         None => Ok(false),
-        Some(Scalar::Number(kind)) => Ok(fits_number(*kind, fact)),
-        Some(Scalar::Address(to)) => {
-            let is = fits_address(tables, to, fact, target)?;
-            Ok(is)
-        }
-        Some(Scalar::Code(ty)) => {
-            let is = fits_code(tables, *ty, fact, detail)?;
+        Some(scalar) => {
+            let is = fits_one(tables, scalar, fact, target, detail)?;
             Ok(is)
         }
     }
