@@ -1,6 +1,6 @@
 -- The test by the names of a file's functions is that of the file.
-use Rattle.std.proofs.Common.{◌≡◌, Bool, true, false, ◌&&◌, ◌||◌, not, List, [], ◌∷◌, Option, Some, None, map, refl, sym, ap, ◌∙◌}
-use Rattle.std.specs.Prelude.{bytes_eq}
+use Rattle.std.proofs.Common.{◌≡◌, ℕ, ◌+◌, ◌<◌, Bool, true, false, ◌&&◌, ◌||◌, not, List, [], ◌∷◌, length, drop, get_or, Option, Some, None, map, refl, sym, ap, ◌∙◌}
+use Rattle.std.specs.Prelude.{bytes_eq, codes}
 use Rattle.std.specs.List.{list_all, list_any}
 use Rattle.cf_classes.specs.ClassTable.{ClassTable}
 use Rattle.cf_core.specs.FromClasses.{signature_of}
@@ -12,12 +12,12 @@ use Rattle.cf_plain.specs.declared.unit.PlainStatic.{PlainStatic as CodeStatic}
 use Rattle.cf_plain.specs.Plain.{PlainFunction, PlainStatic}
 use Rattle.cf_plain.specs.View.{Unit as PlainUnit, file_of, function_of, plains_of, static_of}
 use Rattle.cf_lower.specs.Constants.{nothing_known}
-use Rattle.cf_lower.specs.Functions.{owner_of}
 use Rattle.cf_lower_constants.specs.declared.site.Site.{Site}
 use Rattle.cf_lower_constants.specs.Sites.{statements_at}
+use Rattle.cf_lower_held.proofs.Forgotten.{drop_item}
 use Rattle.cf_lower_program.specs.Starts.{owner_there, starts_known, statics_known}
 use Rattle.cf_types.specs.Table.{Table}
-use Rattle.cf_lowerable_known.specs.Owned.{all_known, names_of, owner_in, start_is_known, static_known}
+use Rattle.cf_lowerable_known.specs.Owned.{all_known, names_of, owner_in, owner_or, start_is_known, static_known}
 
 -- ---- by each test in turn
 
@@ -48,11 +48,15 @@ module _ (names : List Name) (x : PlainStatic) where
 
 -- ---- of an initialiser, by what its statements stand in
 
-pub start_is : (tables : Tables) (x : CodeStatic) (site : Site) (a : Bool) → site.tables.now ≡ tables → site.owner.now ≡ owner_of (static_of tables x)
+owner_is : (o : Option Name) → owner_or o ≡ elim o as (λ _. Name) [ None ↦ codes "__sti" | Some f ↦ f ]
+owner_is None = refl
+owner_is (Some f) = refl
+
+pub start_is : (tables : Tables) (x : CodeStatic) (site : Site) (a : Bool) → site.tables.now ≡ tables → site.owner.now ≡ owner_or x.owner
     → a ≡ starts_known (statements_at site x.start) site.owner.now nothing_known → a ≡ start_is_known (static_of tables x)
 start_is tables x site a at owner is =
     is ∙ ap (λ (t : Tables). starts_known (plains_of t (signature_of t) x.start) site.owner.now nothing_known) at
-    ∙ ap (λ o. starts_known (plains_of tables (signature_of tables) x.start) o nothing_known) owner
+    ∙ ap (λ o. starts_known (plains_of tables (signature_of tables) x.start) o nothing_known) (owner ∙ owner_is x.owner)
 
 -- ---- of a file
 
@@ -95,3 +99,18 @@ module _ (unit : PlainUnit) (tables : Tables) (types : Table) (classes : ClassTa
       ∙ ap (λ c. known_with (record { types = unit.types; classes = c }) fs xs) same_classes
       ∙ ap (λ l. known_with (record { types = unit.types; classes = unit.classes }) l xs) same_fs
       ∙ ap (λ l. known_with (record { types = unit.types; classes = unit.classes }) unit.functions l) same_xs
+
+-- ---- one object after the other
+
+module _ (tables : Tables) (names : List Name) (all : List CodeStatic) (i : ℕ) (x : CodeStatic) (within : i < length all) (is : x ≡ get_or all i x) (b whole : Bool)
+    (told : b ≡ static_known names (static_of tables x)) (so_far : all_known names (map (static_of tables) (drop i all)) ≡ whole) where
+  by_next : (b && all_known names (map (static_of tables) (drop (i + 1) all))) ≡ whole
+  by_next =
+      ap (λ c. c && all_known names (map (static_of tables) (drop (i + 1) all))) told
+      ∙ sym (ap (λ l. all_known names (map (static_of tables) l)) (drop_item all i x within is)) ∙ so_far
+
+  pub next_fails : b ≡ false → false ≡ whole
+  next_fails e = sym (ap (λ c. c && all_known names (map (static_of tables) (drop (i + 1) all))) e) ∙ by_next
+
+  pub next_passes : b ≡ true → all_known names (map (static_of tables) (drop (i + 1) all)) ≡ whole
+  next_passes e = sym (ap (λ c. c && all_known names (map (static_of tables) (drop (i + 1) all))) e) ∙ by_next

@@ -1,5 +1,5 @@
 -- Whether the function is there in which a static object stands, by the names of a file's functions.
-use Rattle.std.specs.Prelude.{Bool, not, ◌&&◌, List, Option, Some, None, map}
+use Rattle.std.specs.Prelude.{Bool, not, ◌&&◌, List, Option, Some, None, map, codes}
 use Rattle.std.specs.List.{list_all}
 use Rattle.cf_core.specs.Types.{Name}
 use Rattle.cf_name_list.specs.Names.{is_in}
@@ -15,6 +15,11 @@ names_of fs = map (λ (f : PlainFn). f.name) fs
 -- what is shared is local to one of these
 abbrev pub owner_in : List Name → PlainStatic → Bool
 owner_in names x = elim x.owner [ None ↦ not x.is_shared | Some f ↦ is_in names f ]
+
+-- the function whose literals the literals of an initialiser are numbered with
+abbrev pub owner_or : Option Name → Name
+owner_or None = codes "__sti"
+owner_or (Some f) = f
 
 abbrev pub start_is_known : PlainStatic → Bool
 start_is_known x = starts_known x.start (owner_of x) nothing_known

@@ -24,11 +24,17 @@ fn first_known(x: &Site<'_>, known: &Knowns, place: u32, value: u32) -> Result<b
     ensures { IfOk result (λ is. is ≡ starts.act_known (told_all x.now known.now) (plain.first place value)) }
 {
     let at = known.get(x.alloc, place)?;
-    let given = known.get(x.alloc, value)?;
     let there = is_known(&at.fact);
+    if !there {
+        return Ok(false);
+    }
+    let given = known.get(x.alloc, value)?;
     let is = is_known(&given.fact);
+    if !is {
+        return Ok(false);
+    }
     let well = starts_well(x.tables, &at.fact, &at.target, &given.fact);
-    Ok(there && is && well)
+    Ok(well)
 }
 
 /// Whether an action whose value is not kept does what is known.

@@ -2,7 +2,6 @@
 
 ghost use Rattle.std.specs.Prelude.{◌≡◌, ◌||◌, List, ℕ, IfOk, OnOk};
 ghost use Rattle.cf_core.specs.FromTypes.{Tables as TablesOf};
-ghost use Rattle.cf_lower.specs.Functions.{owner_of as its_owner};
 ghost use Rattle.cf_name_list.specs.Names.{is_in};
 ghost use Rattle.cf_plain.specs.View.{static_of};
 ghost use Rattle.cf_lowerable_known.specs.Owned as owned;
@@ -43,7 +42,7 @@ pub(crate) fn is_owned(names: &Names<'_>, object: &PlainStatic) -> bool
 
 /// Where the literals of a static object's initialiser are numbered.
 pub(crate) fn owner_of(object: &PlainStatic) -> &[u8]
-    ensures { (tables : TablesOf) → result.now ≡ its_owner (static_of tables object.now) }
+    ensures { result.now ≡ owned.owner_or object.now.owner }
 {
     match &object.owner {
         None => b"__sti".as_slice(),

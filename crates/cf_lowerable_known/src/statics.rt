@@ -1,7 +1,6 @@
 //! The initialisers of a file.
 
 ghost use Rattle.std.specs.Prelude.{◌≡◌, [], map, IfOk};
-ghost use Rattle.cf_lower.specs.Functions.{owner_of as its_owner};
 ghost use Rattle.cf_lower_program.specs.Starts as starts;
 ghost use Rattle.cf_lower_types.specs.Ordered.{IsOrdered};
 ghost use Rattle.cf_plain.specs.View.{file_of, static_of};
@@ -19,7 +18,7 @@ use std::alloc::Global;
 /// What the statements of an initialiser stand in.
 fn site<'x>(alloc: Global, tables: &'x Tables<'x>, object: &'x PlainStatic) -> Site<'x>
     ensures at { result.tables.now ≡ tables.now }
-    ensures owner { result.owner.now ≡ its_owner (static_of tables.now object.now) }
+    ensures owner { result.owner.now ≡ owned.owner_or object.now.owner }
 {
     let owner = owner_of(object);
     Site {

@@ -1,6 +1,7 @@
 -- What is known of registers and of the object that is set, in the code's types.
-use Rattle.std.specs.Prelude.{ℕ, List, map, reverse, Option, Some, None, slice_get}
+use Rattle.std.specs.Prelude.{ℕ, List, map, reverse, Option, Some, None, slice_get, codes}
 use Rattle.cf_core.specs.FromTypes.{Tables, type_of}
+use Rattle.cf_core.specs.Types.{Name}
 use Rattle.cf_plain.specs.Plain.{Register}
 use Rattle.cf_lower.specs.Constants.{Known}
 use Rattle.cf_lower_constants.specs.declared.site.Site.{Site}
@@ -43,3 +44,10 @@ knows x s = told_all x s.known
 
 abbrev pub tells : Site → State → Told
 tells x s = record { facts = details_in x.tables.now s.details; parts = parts_in s.parts.items }
+
+-- ---- of an initialiser
+
+-- the function whose literals its literals are numbered with
+abbrev pub owner_or : Option Name → Name
+owner_or None = codes "__sti"
+owner_or (Some f) = f

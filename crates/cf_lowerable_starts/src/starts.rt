@@ -2,11 +2,10 @@
 
 ghost use Rattle.std.specs.Prelude.{◌≡◌, [], map, IfOk};
 ghost use Rattle.std.specs.List.{list_all};
-ghost use Rattle.cf_core.specs.FromTypes.{Tables as TablesOf};
-ghost use Rattle.cf_lower.specs.Functions.{owner_of as its_owner};
 ghost use Rattle.cf_lower_program.specs.Alike as alike;
 ghost use Rattle.cf_lower_types.specs.Ordered.{IsOrdered};
 ghost use Rattle.cf_plain.specs.View.{file_of, static_of};
+ghost use Rattle.cf_lowerable_starts.specs.Telling as telling;
 
 use crate::walk::initialiser_alike;
 use cf_base::Memory;
@@ -17,7 +16,7 @@ use std::alloc::Global;
 
 /// Where the literals of a static object's initialiser are numbered.
 fn owner_of(object: &PlainStatic) -> &[u8]
-    ensures { (tables : TablesOf) → result.now ≡ its_owner (static_of tables object.now) }
+    ensures { result.now ≡ telling.owner_or object.now.owner }
 {
     match &object.owner {
         None => b"__sti".as_slice(),
@@ -28,7 +27,7 @@ fn owner_of(object: &PlainStatic) -> &[u8]
 /// What the statements of an initialiser stand in.
 fn site<'x>(alloc: Global, tables: &'x Tables<'x>, object: &'x PlainStatic) -> Site<'x>
     ensures at { result.tables.now ≡ tables.now }
-    ensures owner { result.owner.now ≡ its_owner (static_of tables.now object.now) }
+    ensures owner { result.owner.now ≡ telling.owner_or object.now.owner }
 {
     let owner = owner_of(object);
     Site {

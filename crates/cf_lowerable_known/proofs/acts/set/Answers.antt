@@ -11,7 +11,7 @@ returns c =
     let g = told_all x c.args.known.now in
     let given = c.in_ok-given.given in
     let told =
-    c.in_ok-given.ensures ∙ ap (λ cs. known_by cs x.owner.now g (action_at x c.args.a.now)) (none_of x.tables.now c.types-_types.ensures.ordered.no_classes) in
+    c.in_ok-given.ensures ∙ ap (λ cs. known_by cs x.owner.now g (action_at x c.args.a.now)) (none_of x.tables.now c.types-types.ensures.ordered.no_classes) in
     record {
       known = c.is_known-is.ensures x.tables.now given.target given.name ∙ ap is_known told;
       behind = c.in_ok-know.ensures x.tables.now ∙ ap (λ (k : Known). know g c.args.register k) told;

@@ -20,7 +20,7 @@ statements_known-loop-statement-preserved t c =
     let new = told_all x c.statement_known.new.known in
     let told = c.in_ok-is.ensures in
     record {
-      known = known_more x all i s c.loop-statement-test.true c.statement-item.is old new told.behind c.loop-statement.so_far c.in_ok-is.is _ told.known
+      known = known_more x all i s c.loop-statement-test.true c.statement-item.is old new told.behind c.loop-statement.so_far c.in_ok-is.is' _ told.known
           c.loop-statement.invariant.known;
       behind = behind_more x all i s c.loop-statement-test.true c.statement-item.is old new told.behind _ c.loop-statement.invariant.behind;
     }
@@ -44,7 +44,7 @@ statement_known-returns-in_ok-is-in-Act t c =
     let x = c.args.x.now in
     let g = told_all x c.args.known.now in
     let walked =
-    by_form x c.args.statement.now (plain.act (action_at x c.in-Act.action)) g g c.in_ok-is-in-Act.is
+    by_form x c.args.statement.now (plain.act (action_at x c.in-Act.action)) g g c.in_ok-is-in-Act.is'
     (is-Act x.tables.now (signature_of x.tables.now) c.args.statement.now c.in-Act.action c.in-Act.is) (record { known = c.in_ok-is-in-Act.ensures; behind = refl }) in
     record { known = Walked.known walked; behind = Walked.behind walked }
 
@@ -53,7 +53,7 @@ statement_known-returns-in_ok-is-in-Set t c =
     let x = c.args.x.now in
     let g = told_all x c.args.known.now in
     let walked =
-    by_form x c.args.statement.now (plain.set c.in-Set.register (action_at x c.in-Set.action)) g _ c.in_ok-is-in-Set.is
+    by_form x c.args.statement.now (plain.set c.in-Set.register (action_at x c.in-Set.action)) g _ c.in_ok-is-in-Set.is'
     (is-Set x.tables.now (signature_of x.tables.now) c.args.statement.now c.in-Set.register c.in-Set.action c.in-Set.is)
     (record { known = c.in_ok-is-in-Set.ensures.known; behind = c.in_ok-is-in-Set.ensures.behind }) in
     record { known = Walked.known walked; behind = Walked.behind walked }

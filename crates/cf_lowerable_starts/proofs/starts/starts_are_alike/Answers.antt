@@ -11,7 +11,7 @@ use Rattle.cf_lowerable_starts.proofs.starts.starts_are_alike.Goals as goal
 pub new-tables-requires : goal.new-tables-requires
 new-tables-requires c = record {
   ordered = subst (λ t. IsOrdered t) (sym c.types.ensures) c.requires.ordered;
-  fit = subst (λ k. Fit c.types.result.now k) (sym c.classes.ensures) (subst (λ t. Fit t c.args.unit.now.classes) (sym c.types.ensures) c.functions-_functions.ensures.valid.fit);
+  fit = subst (λ k. Fit c.types.result.now k) (sym c.classes.ensures) (subst (λ t. Fit t c.args.unit.now.classes) (sym c.types.ensures) c.functions-functions.ensures.valid.fit);
   no_classes = ap (λ (k : ClassTable). k.defined) c.classes.ensures ∙ c.requires.no_classes;
 }
 

@@ -7,4 +7,4 @@ pub returns : goal.returns
 returns c =
     let tables = c.args.tables.now in
     size_is (target_in tables c.args.target.now) (type_in tables c.place_type-place.result) (c.place_type-place.ensures tables) tables c.in_ok-bytes.bytes
-    c.types-_types.ensures.ordered.no_classes c.in_ok-bytes.ensures
+    c.types-types.ensures.ordered.no_classes c.in_ok-bytes.ensures

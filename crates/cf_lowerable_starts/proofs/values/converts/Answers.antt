@@ -22,7 +22,7 @@ returns-in_ok-is-in-Pointer c =
     λ n.
     let tables = c.args.tables.now in
     pointer_converts (fact_in tables c.args.fact.now c.args.target.now n) tables c.args.ty c.form_of.result c.form_of.ensures.is c.in-Pointer.to
-    (sort_in tables c.sort_to-sort.result) c.in_ok-is-in-Pointer.is c.in-Pointer.is c.sort_to-sort.ensures (c.in_ok-is-in-Pointer.ensures n)
+    (sort_in tables c.sort_to-sort.result) c.in_ok-is-in-Pointer.is' c.in-Pointer.is c.sort_to-sort.ensures (c.in_ok-is-in-Pointer.ensures n)
 
 pub returns-in-Void : goal.returns-in-Void
 returns-in-Void c =

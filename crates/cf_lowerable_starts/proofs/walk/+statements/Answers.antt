@@ -22,7 +22,7 @@ statements_alike-loop-statement-preserved t c =
     let told = c.in_ok-is.ensures in
     record {
       alike = alike_more x name all i s c.loop-statement-test.true c.statement-item.is (knows x old) (knows x new) (tells x old) (tells x new) told.known told.told
-          c.loop-statement.so_far c.in_ok-is.is _ told.alike c.loop-statement.invariant.alike;
+          c.loop-statement.so_far c.in_ok-is.is' _ told.alike c.loop-statement.invariant.alike;
       known = known_more x name all i s c.loop-statement-test.true c.statement-item.is (knows x old) (knows x new) (tells x old) (tells x new) told.known told.told
           _ c.loop-statement.invariant.known;
       told = told_more x name all i s c.loop-statement-test.true c.statement-item.is (knows x old) (knows x new) (tells x old) (tells x new) told.known told.told
@@ -54,7 +54,7 @@ statement_alike-returns-in_ok-is-in-Act t c =
     let name = c.args.name.now in
     let g = knows x c.args.s.now in
     let u = tells x c.args.s.now in
-    let walked = by_form x name c.args.statement.now (plain.act (action_at x c.in-Act.action)) g _ u _ c.in_ok-is-in-Act.is
+    let walked = by_form x name c.args.statement.now (plain.act (action_at x c.in-Act.action)) g _ u _ c.in_ok-is-in-Act.is'
     (is-Act x.tables.now (signature_of x.tables.now) c.args.statement.now c.in-Act.action c.in-Act.is) (record { alike = c.in_ok-is-in-Act.ensures.alike; known = c.in_ok-is-in-Act.ensures.known; told = c.in_ok-is-in-Act.ensures.told }) in
     record { alike = Walked.alike walked; known = Walked.known walked; told = Walked.told walked }
 
@@ -64,7 +64,7 @@ statement_alike-returns-in_ok-is-in-Set t c =
     let name = c.args.name.now in
     let g = knows x c.args.s.now in
     let u = tells x c.args.s.now in
-    let walked = by_form x name c.args.statement.now (plain.set c.in-Set.register (action_at x c.in-Set.action)) g _ u _ c.in_ok-is-in-Set.is
+    let walked = by_form x name c.args.statement.now (plain.set c.in-Set.register (action_at x c.in-Set.action)) g _ u _ c.in_ok-is-in-Set.is'
     (is-Set x.tables.now (signature_of x.tables.now) c.args.statement.now c.in-Set.register c.in-Set.action c.in-Set.is) (record { alike = c.in_ok-is-in-Set.ensures.alike; known = c.in_ok-is-in-Set.ensures.known; told = c.in_ok-is-in-Set.ensures.told }) in
     record { alike = Walked.alike walked; known = Walked.known walked; told = Walked.told walked }
 

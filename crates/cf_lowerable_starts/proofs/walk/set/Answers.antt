@@ -18,6 +18,6 @@ returns c =
       known = c.in_ok-set.ensures.known x
           ∙ ap (λ (k : Known). know g r k)
           (c.in_ok-known.ensures
-          ∙ ap (λ cs. known_by cs x.owner.now g (action_at x c.args.a.now)) (none_of x.tables.now c.types-_types.ensures.ordered.no_classes));
+          ∙ ap (λ cs. known_by cs x.owner.now g (action_at x c.args.a.now)) (none_of x.tables.now c.types-types.ensures.ordered.no_classes));
       told = c.in_ok-set.ensures.told x ∙ ap (λ (f : Fact). both (tell old.facts r f) old.parts) c.in_ok-detail.ensures;
     }
