@@ -36,10 +36,10 @@ module _ (x : Site) where
 
   module _ (all : List CodePlain) (i : ℕ) (s : CodePlain) (within : i < length all) (is : s ≡ get_or all i s) (g h : Register → Known)
       (behind : h ≡ known_after [] (statement_at x s) x.owner.now g) where
-    pub known_more : (a b whole : Bool) → b ≡ here s g → (a && left (drop i all) g) ≡ whole → ((a && b) && left (drop (i + 1) all) h) ≡ whole
-    known_more a b whole good so_far =
+    pub known_more : (a b v whole : Bool) → v ≡ (a && b) → b ≡ here s g → (a && left (drop i all) g) ≡ whole → (v && left (drop (i + 1) all) h) ≡ whole
+    known_more a b v whole joined good so_far =
         let rest = drop (i + 1) all in
-        ap (λ c. (a && c) && left rest h) good ∙ and_grouped a (here s g) (left rest h) ∙ ap (λ k. a && (here s g && left rest k)) behind
+        ap (λ c. c && left rest h) joined ∙ ap (λ c. (a && c) && left rest h) good ∙ and_grouped a (here s g) (left rest h) ∙ ap (λ k. a && (here s g && left rest k)) behind
         ∙ sym (ap (λ l. a && left l g) (drop_item all i s within is)) ∙ so_far
 
     pub behind_more : (whole : Register → Known) → known_left (drop i all) g ≡ whole → known_left (drop (i + 1) all) h ≡ whole

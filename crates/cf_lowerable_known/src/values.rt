@@ -1,6 +1,6 @@
 //! Which values are known, and which of them a scalar holds.
 
-ghost use Rattle.std.specs.Prelude.{◌≡◌, Some};
+ghost use Rattle.std.specs.Prelude.{◌≡◌, ◌&&◌, Some};
 ghost use Rattle.std.specs.Option.{option_map};
 ghost use Rattle.cf_base.specs.declared.kind.Kind.{Kind as KindOf};
 ghost use Rattle.cf_core.specs.FromTypes.{Tables as TablesOf};
@@ -13,6 +13,13 @@ ghost use Rattle.cf_lower_types.specs.Bare.{sort_in};
 
 use cf_lower_constants::{Fact, Target, target_scalar};
 use cf_lower_types::{Scalar, Tables};
+
+/// Whether both are so.
+pub(crate) fn both(a: bool, b: bool) -> bool
+    ensures { result ≡ (a && b) }
+{
+    a && b
+}
 
 /// Whether it is known at all.
 pub(crate) fn is_known(fact: &Fact) -> bool

@@ -6,6 +6,7 @@ ghost use Rattle.cf_lower_constants.specs.Sites.{statement_at, statements_at, to
 ghost use Rattle.cf_lower_program.specs.Starts as starts;
 
 use crate::acts::{act_known, set};
+use crate::values::both;
 use cf_base::{Items, Memory};
 use cf_lower_constants::{Knowns, Site, decided};
 use cf_plain::Plain;
@@ -19,7 +20,8 @@ fn statements_known(x: &Site<'_>, all: &Items<Plain>, known: &mut Knowns) -> Res
     let mut so_far = true;
     for statement in all.as_slice() {
         let is = statement_known(x, statement, known)?;
-        so_far = so_far && is;
+        let now = both(so_far, is);
+        so_far = now;
     }
     Ok(so_far)
 }
