@@ -20,8 +20,8 @@ fn statements_known(x: &Site<'_>, all: &Items<Plain>, known: &mut Knowns) -> Res
     let mut so_far = true;
     for statement in all.as_slice() {
         let is = statement_known(x, statement, known)?;
-        let now = both(so_far, is);
-        so_far = now;
+        let joined = both(so_far, is);
+        so_far = joined;
     }
     Ok(so_far)
 }

@@ -37,10 +37,10 @@ module _ (x : Site) (name : Name) where
 
   module _ (all : List CodePlain) (i : ℕ) (s : CodePlain) (within : i < length all) (is : s ≡ get_or all i s) (g h : Register → Known) (t u : Told)
       (behind : h ≡ known_after [] (statement_at x s) x.owner.now g) (told : u ≡ told_after (statement_at x s) x.owner.now g t) where
-    pub alike_more : (a b whole : Bool) → b ≡ here s g t → (a && left (drop i all) g t) ≡ whole → ((a && b) && left (drop (i + 1) all) h u) ≡ whole
-    alike_more a b whole good so_far =
+    pub alike_more : (a b v whole : Bool) → v ≡ (a && b) → b ≡ here s g t → (a && left (drop i all) g t) ≡ whole → (v && left (drop (i + 1) all) h u) ≡ whole
+    alike_more a b v whole joined good so_far =
         let rest = drop (i + 1) all in
-        ap (λ c. (a && c) && left rest h u) good ∙ and_grouped a (here s g t) (left rest h u) ∙ ap (λ k. a && (here s g t && left rest k u)) behind
+        ap (λ c. c && left rest h u) joined ∙ ap (λ c. (a && c) && left rest h u) good ∙ and_grouped a (here s g t) (left rest h u) ∙ ap (λ k. a && (here s g t && left rest k u)) behind
         ∙ ap (λ v. a && (here s g t && left rest (known_after [] (statement_at x s) x.owner.now g) v)) told
         ∙ sym (ap (λ l. a && left l g t) (drop_item all i s within is)) ∙ so_far
 
@@ -109,11 +109,11 @@ module _ (x : Site) (name : Name) where
     untold_told u e is = is ∙ sym (told_by None (sym truth ∙ e))
 
     module _ (n a : Bool) (number : n ≡ has_number (g r)) (b : Bool) (some : o ≡ Some b) where
-      pub true_alike : b ≡ true → a ≡ of_all ss → (n && a) ≡ good
-      true_alike so is = ap (λ c. c && a) number ∙ ap (λ c. has_number (g r) && c) is ∙ sym (good_by (Some true) (sym truth ∙ some ∙ ap Some so))
+      pub true_alike : (v : Bool) → v ≡ (n && a) → b ≡ true → a ≡ of_all ss → v ≡ good
+      true_alike v joined so is = joined ∙ ap (λ c. c && a) number ∙ ap (λ c. has_number (g r) && c) is ∙ sym (good_by (Some true) (sym truth ∙ some ∙ ap Some so))
 
-      pub false_alike : b ≡ false → a ≡ of_all ts → (n && a) ≡ good
-      false_alike so is = ap (λ c. c && a) number ∙ ap (λ c. has_number (g r) && c) is ∙ sym (good_by (Some false) (sym truth ∙ some ∙ ap Some so))
+      pub false_alike : (v : Bool) → v ≡ (n && a) → b ≡ false → a ≡ of_all ts → v ≡ good
+      false_alike v joined so is = joined ∙ ap (λ c. c && a) number ∙ ap (λ c. has_number (g r) && c) is ∙ sym (good_by (Some false) (sym truth ∙ some ∙ ap Some so))
 
     module _ (b : Bool) (some : o ≡ Some b) where
       pub true_known : (h : Register → Known) → b ≡ true → h ≡ known_of ss → h ≡ known

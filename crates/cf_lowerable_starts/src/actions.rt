@@ -9,6 +9,7 @@ ghost use Rattle.cf_lowerable_starts.specs.Telling.{detail_in, knows, tells};
 
 use crate::details::{Detail, decayed_detail, pointer_detail, sum_detail};
 use crate::functions::may_be_named;
+use crate::joins::both;
 use crate::state::State;
 use crate::types::is_reference;
 use crate::values::{converts, decays, has_number, is_known, moves, moves_by};
@@ -40,7 +41,7 @@ fn numbers_at(x: &Site<'_>, s: &State, left: u32, right: u32) -> Result<bool, Me
 {
     let first = number_at(x, s, left)?;
     let second = number_at(x, s, right)?;
-    Ok(first && second)
+    Ok(both(first, second))
 }
 
 /// Whether what it holds becomes a pointer to a first element that is known (4.6).

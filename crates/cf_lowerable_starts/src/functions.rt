@@ -8,6 +8,7 @@ ghost use Rattle.cf_lower_place.specs.Named as named;
 ghost use Rattle.cf_lower_types.specs.Bare.{bare};
 ghost use Rattle.cf_lowerable_starts.specs.Heads as heads;
 
+use crate::joins::both;
 use cf_base::Kind;
 use cf_lower_types::{Form, Tables, form_of};
 use cf_types::{Fun, TyId};
@@ -61,13 +62,15 @@ fn is_void_form(form: &Form) -> bool
 }
 
 /// Whether a function takes an `int` alone.
+#[tactic(auto, using(crate::proofs::HeadLaws::first_taken, crate::proofs::HeadLaws::none_first))]
 fn takes_int(tables: &Tables<'_>, function: &Fun) -> bool
     ensures { result ≡ heads.takes_int tables.now function.now.params }
 {
     match function.params.as_slice().split_first() {
         Some((first, rest)) => {
             let int = is_int(tables, *first);
-            rest.len() == 0 && int
+            let alone = rest.len() == 0;
+            both(alone, int)
         }
         None => false,
     }
@@ -90,7 +93,7 @@ fn puts(tables: &Tables<'_>, id: TyId) -> bool
             let function = tables.fun(number);
             let taken = takes_int(tables, function);
             let given = is_int(tables, function.result);
-            taken && given
+            both(taken, given)
         }
         _ => false,
     }
@@ -105,7 +108,7 @@ fn exits(tables: &Tables<'_>, id: TyId) -> bool
             let function = tables.fun(number);
             let taken = takes_int(tables, function);
             let given = is_nothing(tables, function.result);
-            taken && given
+            both(taken, given)
         }
         _ => false,
     }
@@ -120,7 +123,7 @@ fn gets(tables: &Tables<'_>, id: TyId) -> bool
             let function = tables.fun(number);
             let taken = takes_nothing(function);
             let given = is_int(tables, function.result);
-            taken && given
+            both(taken, given)
         }
         _ => false,
     }

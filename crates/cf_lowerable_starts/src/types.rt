@@ -14,6 +14,7 @@ ghost use Rattle.cf_core.specs.Size.{size};
 ghost use Rattle.cf_lower_types.specs.Bare.{bare, sort_in, type_in};
 ghost use Rattle.cf_types.specs.Table.{NamesBelow};
 
+use crate::joins::both;
 use cf_base::Memory;
 use cf_lower_constants::Target;
 use cf_lower_same::same_places;
@@ -93,7 +94,7 @@ fn is_const_once(tables: &Tables<'_>, id: TyId) -> bool
         Ty::Const(inside) => {
             let twice = is_const(tables, inside);
             let once = is_const_once(tables, inside);
-            !twice && once
+            both(!twice, once)
         }
         Ty::Array(item, _) => {
             let items = is_const_once(tables, item);
@@ -120,7 +121,7 @@ pub(crate) fn decays_at(tables: &Tables<'_>, target: &Target) -> Result<bool, Me
 {
     let void = is_void(tables, target)?;
     let once = target_once(tables, target);
-    Ok(!void && once)
+    Ok(both(!void, once))
 }
 
 /// How many elements an array of this type has; an object that is none counts as an array of one (5.7).

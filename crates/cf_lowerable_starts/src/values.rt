@@ -15,6 +15,7 @@ ghost use Rattle.cf_lower_types.specs.Bare.{bare, sort_in, type_in};
 ghost use Rattle.cf_lowerable_starts.specs.Telling.{detail_in};
 
 use crate::details::Detail;
+use crate::joins::{both, either};
 use crate::types::{decays_at, is_void, points_as};
 use cf_base::{Kind, Memory};
 use cf_core::PointerOperator;
@@ -66,7 +67,7 @@ fn steps(tables: &Tables<'_>, place: &Fact, target: &Target, by: &Fact) -> Resul
         Fact::Place(_) => {
             let void = is_void(tables, target)?;
             let number = has_number(by);
-            Ok(number && !void)
+            Ok(both(number, !void))
         }
         Fact::Nothing | Fact::Number(_) | Fact::Null | Fact::Function => Ok(false),
     }
@@ -84,7 +85,7 @@ pub(crate) fn moves(
 {
     let ahead = steps(tables, a, first, b)?;
     let behind = steps(tables, b, second, a)?;
-    Ok(ahead || behind)
+    Ok(either(ahead, behind))
 }
 
 /// Whether an operator gives a place that is known (5.7).

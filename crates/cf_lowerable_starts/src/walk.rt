@@ -7,6 +7,7 @@ ghost use Rattle.cf_lower_program.specs.Alike as alike;
 ghost use Rattle.cf_lowerable_starts.specs.Telling.{knows, tells};
 
 use crate::actions::{action_alike, detail_by, number_at};
+use crate::joins::both;
 use crate::state::State;
 use crate::stores::{act_alike, add_parts};
 use cf_base::{Items, Memory};
@@ -56,7 +57,8 @@ fn statements_alike(
     let mut so_far = true;
     for statement in all.as_slice() {
         let is = statement_alike(x, name, statement, s)?;
-        so_far = so_far && is;
+        let joined = both(so_far, is);
+        so_far = joined;
     }
     Ok(so_far)
 }
@@ -93,10 +95,12 @@ fn statement_alike(
                 Some(taken) => {
                     if taken {
                         let are = statements_alike(x, name, yes, s)?;
-                        return Ok(number && are);
+                        let first = both(number, are);
+                        return Ok(first);
                     }
                     let are = statements_alike(x, name, no, s)?;
-                    Ok(number && are)
+                    let second = both(number, are);
+                    Ok(second)
                 }
             }
         }

@@ -20,8 +20,8 @@ statements_known-loop-statement-preserved t c =
     let new = told_all x c.statement_known.new.known in
     let told = c.in_ok-is.ensures in
     record {
-      known = known_more x all i s c.loop-statement-test.true c.statement-item.is old new told.behind c.loop-statement.so_far c.in_ok-is.is' c.both-now.result _
-          c.both-now.ensures told.known
+      known = known_more x all i s c.loop-statement-test.true c.statement-item.is old new told.behind c.loop-statement.so_far c.in_ok-is.is' c.both-joined.result _
+          c.both-joined.ensures told.known
           c.loop-statement.invariant.known;
       behind = behind_more x all i s c.loop-statement-test.true c.statement-item.is old new told.behind _ c.loop-statement.invariant.behind;
     }

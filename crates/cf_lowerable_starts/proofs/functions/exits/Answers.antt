@@ -1,10 +1,12 @@
+use Rattle.std.proofs.Common.{◌∙◌}
 use Rattle.cf_core.specs.Types.{void}
 use Rattle.cf_lowerable_starts.proofs.HeadLaws.{head_of_int, no_head_of_int}
 use Rattle.cf_lowerable_starts.proofs.functions.exits.Goals as goal
 
 pub returns-in-Function : goal.returns-in-Function
 returns-in-Function c =
-    head_of_int c.args.tables.now c.args.id c.in-Function.number c.form_of.result c.fun-function.result.now c.form_of.ensures.is c.in-Function.is c.fun-function.ensures
+    c.both.ensures
+    ∙ head_of_int c.args.tables.now c.args.id c.in-Function.number c.form_of.result c.fun-function.result.now c.form_of.ensures.is c.in-Function.is c.fun-function.ensures
     c.takes_int-taken.result c.is_nothing-given.result void c.is_nothing-given.ensures c.takes_int-taken.ensures
 
 pub returns-in_default : goal.returns-in_default

@@ -8,7 +8,7 @@ use Rattle.cf_lowerable_starts.proofs.types.+is_const_once.Goals as goal
 pub returns-in-Const : goal.returns-in-Const
 returns-in-Const t c =
     let tables = c.args.tables.now in
-    ap (λ b. not b && c.is_const_once-once.result) c.is_const-twice.ensures
+    c.both.ensures ∙ ap (λ b. not b && c.is_const_once-once.result) c.is_const-twice.ensures
     ∙ ap (λ b. not (places.is_const (type_of tables c.in-Const.inside)) && b) c.is_const_once-once.ensures
     ∙ sym (ap const_once (c.entry.ensures.value ∙ ap (type_step tables (type_of tables)) c.in-Const.is))
 

@@ -11,5 +11,5 @@ returns c =
     let tables = c.args.tables.now in
     let x = fact_in tables c.args.a.now c.args.first.now n in
     let y = fact_in tables c.args.b.now c.args.second.now m in
-    ap (λ b. b || c.in_ok-behind.behind) (c.in_ok-ahead.ensures n m c.args.second.now)
+    c.either.ensures ∙ ap (λ b. b || c.in_ok-behind.behind) (c.in_ok-ahead.ensures n m c.args.second.now)
     ∙ ap (λ b. alike.moves_by pointer.Subtract x y || b) (c.in_ok-behind.ensures m n c.args.first.now) ∙ either_moves x y

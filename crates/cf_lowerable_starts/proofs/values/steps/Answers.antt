@@ -11,5 +11,5 @@ returns-in_ok-void-in-Place c =
     let tables = c.args.tables.now in
     let t = target_in tables c.args.target.now in
     let y = fact_in tables c.args.by.now u m in
-    ap (λ b. b && not c.in_ok-void-in-Place.void) (c.has_number-number.ensures tables u m) ∙ ap (λ b. alike.has_number y && not b) c.in_ok-void-in-Place.ensures
+    c.both.ensures ∙ ap (λ b. b && not c.in_ok-void-in-Place.void) (c.has_number-number.ensures tables u m) ∙ ap (λ b. alike.has_number y && not b) c.in_ok-void-in-Place.ensures
     ∙ number_moves n _ t y ∙ sym (ap (λ f. alike.moves_by pointer.Subtract (fact_in tables f c.args.target.now n) y) c.in-Place.is)

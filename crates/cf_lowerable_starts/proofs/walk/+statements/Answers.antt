@@ -1,4 +1,4 @@
-use Rattle.std.proofs.Common.{◌&&◌, false, refl}
+use Rattle.std.proofs.Common.{false, refl}
 use Rattle.cf_core.specs.FromClasses.{signature_of}
 use Rattle.cf_plain.specs.Plain as plain
 use Rattle.cf_lower_constants.specs.Sites.{action_at, statements_at}
@@ -22,7 +22,7 @@ statements_alike-loop-statement-preserved t c =
     let told = c.in_ok-is.ensures in
     record {
       alike = alike_more x name all i s c.loop-statement-test.true c.statement-item.is (knows x old) (knows x new) (tells x old) (tells x new) told.known told.told
-          c.loop-statement.so_far c.in_ok-is.is' _ told.alike c.loop-statement.invariant.alike;
+          c.loop-statement.so_far c.in_ok-is.is' c.both-joined.result _ c.both-joined.ensures told.alike c.loop-statement.invariant.alike;
       known = known_more x name all i s c.loop-statement-test.true c.statement-item.is (knows x old) (knows x new) (tells x old) (tells x new) told.known told.told
           _ c.loop-statement.invariant.known;
       told = told_more x name all i s c.loop-statement-test.true c.statement-item.is (knows x old) (knows x new) (tells x old) (tells x new) told.known told.told
@@ -95,8 +95,8 @@ statement_alike-returns-then-taken t c =
     let no = statements_at x c.in-If.no in
     let o = c.in_ok-truth-in-If.truth in
     let truth = c.in_ok-truth-in-If.ensures in
-    let walked = by_form x name c.args.statement.now (plain.branch r yes no) g _ u _ (c.in_ok-number-in-If.number && c.in_ok-are-in-Some.are)
-    (is-If x.tables.now (signature_of x.tables.now) c.args.statement.now c.in-If.register c.in-If.yes c.in-If.no c.in-If.is) (record { alike = true_alike x name g u r yes no o truth c.in_ok-number-in-If.number c.in_ok-are-in-Some.are c.in_ok-number-in-If.ensures c.in-Some.taken c.in-Some.is c.if-taken.true c.in_ok-are-in-Some.ensures.alike; known = true_known x name g u r yes no o truth c.in-Some.taken c.in-Some.is _ c.if-taken.true c.in_ok-are-in-Some.ensures.known; told = true_told x name g u r yes no o truth c.in-Some.taken c.in-Some.is _ c.if-taken.true c.in_ok-are-in-Some.ensures.told }) in
+    let walked = by_form x name c.args.statement.now (plain.branch r yes no) g _ u _ c.both-first.result
+    (is-If x.tables.now (signature_of x.tables.now) c.args.statement.now c.in-If.register c.in-If.yes c.in-If.no c.in-If.is) (record { alike = true_alike x name g u r yes no o truth c.in_ok-number-in-If.number c.in_ok-are-in-Some.are c.in_ok-number-in-If.ensures c.in-Some.taken c.in-Some.is c.both-first.result c.both-first.ensures c.if-taken.true c.in_ok-are-in-Some.ensures.alike; known = true_known x name g u r yes no o truth c.in-Some.taken c.in-Some.is _ c.if-taken.true c.in_ok-are-in-Some.ensures.known; told = true_told x name g u r yes no o truth c.in-Some.taken c.in-Some.is _ c.if-taken.true c.in_ok-are-in-Some.ensures.told }) in
     record { alike = Walked.alike walked; known = Walked.known walked; told = Walked.told walked }
 
 pub statement_alike-returns-in_ok-are-in-Some-2 : goal.statement_alike-returns-in_ok-are-in-Some-2
@@ -110,8 +110,8 @@ statement_alike-returns-in_ok-are-in-Some-2 t c =
     let no = statements_at x c.in-If.no in
     let o = c.in_ok-truth-in-If.truth in
     let truth = c.in_ok-truth-in-If.ensures in
-    let walked = by_form x name c.args.statement.now (plain.branch r yes no) g _ u _ (c.in_ok-number-in-If.number && c.in_ok-are-in-Some-2.are)
-    (is-If x.tables.now (signature_of x.tables.now) c.args.statement.now c.in-If.register c.in-If.yes c.in-If.no c.in-If.is) (record { alike = false_alike x name g u r yes no o truth c.in_ok-number-in-If.number c.in_ok-are-in-Some-2.are c.in_ok-number-in-If.ensures c.in-Some.taken c.in-Some.is c.if-taken.false c.in_ok-are-in-Some-2.ensures.alike; known = false_known x name g u r yes no o truth c.in-Some.taken c.in-Some.is _ c.if-taken.false c.in_ok-are-in-Some-2.ensures.known; told = false_told x name g u r yes no o truth c.in-Some.taken c.in-Some.is _ c.if-taken.false c.in_ok-are-in-Some-2.ensures.told }) in
+    let walked = by_form x name c.args.statement.now (plain.branch r yes no) g _ u _ c.both-second.result
+    (is-If x.tables.now (signature_of x.tables.now) c.args.statement.now c.in-If.register c.in-If.yes c.in-If.no c.in-If.is) (record { alike = false_alike x name g u r yes no o truth c.in_ok-number-in-If.number c.in_ok-are-in-Some-2.are c.in_ok-number-in-If.ensures c.in-Some.taken c.in-Some.is c.both-second.result c.both-second.ensures c.if-taken.false c.in_ok-are-in-Some-2.ensures.alike; known = false_known x name g u r yes no o truth c.in-Some.taken c.in-Some.is _ c.if-taken.false c.in_ok-are-in-Some-2.ensures.known; told = false_told x name g u r yes no o truth c.in-Some.taken c.in-Some.is _ c.if-taken.false c.in_ok-are-in-Some-2.ensures.told }) in
     record { alike = Walked.alike walked; known = Walked.known walked; told = Walked.told walked }
 
 pub statement_alike-returns-in-Loop : goal.statement_alike-returns-in-Loop
