@@ -1,0 +1,13 @@
+pub mod Advances
+pub mod Alone
+pub mod Files
+pub mod Forms
+pub mod HeadLaws
+pub mod Holding
+pub mod KeptLaws
+pub mod ObjectLaws
+pub mod Opens
+pub mod Scans
+pub mod Sides
+pub mod Steps
+pub mod WalkLaws

@@ -1,0 +1,173 @@
+//! Lists of locals, the last that was declared first.
+
+ghost use Rattle.std.specs.Prelude.{◌≡◌, ◌==◌, ◌&&◌, ◌∷◌, length, OnOk};
+ghost use Rattle.std.specs.List.{list_all, list_any};
+ghost use Rattle.cf_lower_kept.specs.Opened as spec;
+ghost use Rattle.cf_lowerable_open.specs.Lists as walk;
+
+use crate::changes::{Change, change_all};
+use crate::opened::Opened;
+use cf_base::Memory;
+
+/// Whether the object of this local may stand.
+pub fn is_open(local: u32, all: &[Opened]) -> bool
+    ensures { result ≡ spec.is_open local all.now }
+{
+    all.iter().any(|x| x.is_open(local))
+}
+
+/// Whether anything is told of this local.
+pub fn is_listed(local: u32, all: &[Opened]) -> bool
+    ensures { result ≡ spec.is_listed local all.now }
+{
+    all.iter().any(|x| x.is(local))
+}
+
+/// Whether this local may get its first value in this register.
+pub fn may_begin(local: u32, register: u32, all: &[Opened]) -> bool
+    ensures { result ≡ spec.may_begin local register all.now }
+{
+    all.iter().any(|x| x.may_begin(local, register))
+}
+
+/// Whether this local has its value.
+fn has_its_value(all: &[Opened], local: u32) -> bool
+    ensures { result ≡ spec.has_its_value all.now local }
+{
+    all.iter().any(|x| x.has_its_value(local))
+}
+
+/// Whether each of these locals has its value.
+fn have_values(all: &[Opened], locals: &[u32]) -> bool
+    ensures { result ≡ list_all (spec.has_its_value all.now) locals.now }
+{
+    locals.iter().all(|local| has_its_value(all, *local))
+}
+
+/// Whether a number is among these.
+fn is_among(local: u32, locals: &[u32]) -> bool
+    ensures { result ≡ list_any (λ j. j == local) locals.now }
+{
+    locals.iter().any(|other| *other == local)
+}
+
+/// Whether no number is there twice.
+fn differ(locals: &[u32]) -> bool
+    ensures { result ≡ spec.differ locals.now }
+{
+    match locals.split_first() {
+        None => true,
+        Some((first, rest)) => !is_among(*first, rest) && differ(rest),
+    }
+}
+
+/// Whether the locals of arguments are different ones that have their values.
+pub fn may_pass(all: &[Opened], locals: &[u32]) -> bool
+    ensures { result ≡ (spec.differ locals.now && list_all (spec.has_its_value all.now) locals.now) }
+{
+    differ(locals) && have_values(all, locals)
+}
+
+/// The local is gone.
+pub fn close(local: u32, all: &mut Vec<Opened>)
+    ensures { all.new.items ≡ spec.closed local all.old.items }
+{
+    all.retain(|x| !x.is(local));
+}
+
+/// These locals are gone.
+pub fn close_all(locals: &[u32], all: &mut Vec<Opened>)
+    ensures { all.new.items ≡ spec.closed_all locals.now all.old.items }
+{
+    match locals.split_first() {
+        None => {}
+        Some((first, rest)) => {
+            close(*first, all);
+            close_all(rest, all);
+        }
+    }
+}
+
+/// The locals whose flag is in a register that holds 0 are gone.
+pub fn close_by(register: u32, all: &mut Vec<Opened>)
+    ensures { all.new.items ≡ spec.where_unset register all.old.items }
+{
+    all.retain(|x| !x.goes_by(register));
+}
+
+/// Puts a local in front.
+pub fn put(x: Opened, all: &mut Vec<Opened>) -> Result<(), Memory>
+    ensures { OnOk result (all.new.items ≡ x ∷ all.old.items) }
+{
+    all.insert(0, x)?;
+    Ok(())
+}
+
+/// The local has an object, in this register.
+pub fn declare(local: u32, register: Option<u32>, all: &mut Vec<Opened>) -> Result<(), Memory>
+    ensures { OnOk result (all.new.items ≡ spec.declared_among local register all.old.items) }
+{
+    if is_listed(local, all.as_slice()) {
+        change_all(all, Change::Declared(local, register));
+        Ok(())
+    } else {
+        put(Opened::new(local, register, false), all)
+    }
+}
+
+/// Whether two lists are equally long.
+fn same_length(left: &[Opened], right: &[Opened]) -> bool
+    ensures { result ≡ (length left.now == length right.now) }
+{
+    left.len() == right.len()
+}
+
+/// Whether the same local stands at an index of both.
+fn same_at(left: &[Opened], right: &[Opened], index: usize) -> bool
+    ensures { result ≡ walk.same_at left.now right.now index }
+{
+    match (left.get(index), right.get(index)) {
+        (Some(x), Some(y)) => x.is_same(y),
+        _ => false,
+    }
+}
+
+/// Whether the same is told of the same local at an index of both.
+fn open_at(left: &[Opened], right: &[Opened], index: usize) -> bool
+    ensures { result ≡ walk.open_at left.now right.now index }
+{
+    match (left.get(index), right.get(index)) {
+        (Some(x), Some(y)) => x.is_as_open(y),
+        _ => false,
+    }
+}
+
+/// Whether the same locals are listed.
+pub fn same_locals(left: &[Opened], right: &[Opened]) -> bool
+    ensures { result ≡ spec.same_locals left.now right.now }
+{
+    if !same_length(left, right) {
+        return false;
+    }
+    for index in 0..left.len() {
+        if !same_at(left, right, index) {
+            return false;
+        }
+    }
+    true
+}
+
+/// Whether the same locals stand.
+pub fn same_open(left: &[Opened], right: &[Opened]) -> bool
+    ensures { result ≡ spec.same_open left.now right.now }
+{
+    if !same_length(left, right) {
+        return false;
+    }
+    for index in 0..left.len() {
+        if !open_at(left, right, index) {
+            return false;
+        }
+    }
+    true
+}

@@ -1,0 +1,286 @@
+//! What is told of one local.
+
+ghost use Rattle.std.specs.Prelude.{◌≡◌, ◌==◌, Some, None, false};
+ghost use Rattle.cf_lower_kept.specs.Opened as spec;
+ghost use Rattle.cf_lowerable_open.specs.Lists as walk;
+
+use std::marker::Model;
+
+/// A local that may have an object.
+#[derive(Clone, Copy, Debug)]
+pub struct Opened {
+    /// Its number in its function.
+    pub local: u32,
+    /// The register with its place, while it has no value.
+    pub begun: Option<u32>,
+    /// Whether it has a value.
+    pub has_value: bool,
+    /// Whether its object stands, if that is told.
+    pub stands: Option<bool>,
+    /// The register of its flag, if it has one.
+    pub flag: Option<u32>,
+    /// Whether the flag holds 1 where the object stands and 0 where it does not.
+    pub is_told: bool,
+}
+
+impl Model for Opened {
+    ghost use Rattle.cf_lower_kept.specs.Opened.{Opened};
+
+    ghost Value = { Opened };
+
+    ghost view = { λ x. record { local = x.local; begun = x.begun; has_value = x.has_value; stands = x.stands; flag = x.flag; is_told = x.is_told } };
+
+    ghost inverse = { λ x. record { local = x.local; begun = x.begun; has_value = x.has_value; stands = x.stands; flag = x.flag; is_told = x.is_told } };
+}
+
+/// Whether this register is given.
+fn is_register(given: Option<u32>, register: u32) -> bool
+    ensures { result ≡ spec.is_register given register }
+{
+    match given {
+        None => false,
+        Some(other) => other == register,
+    }
+}
+
+/// Whether an object is told not to stand.
+fn is_over(stands: Option<bool>) -> bool
+    ensures { result ≡ spec.is_over stands }
+{
+    match stands {
+        None => false,
+        Some(stands) => !stands,
+    }
+}
+
+/// Whether a flag tells by this number that an object stands, or that it does not.
+fn tells(stands: Option<bool>, value: i64) -> bool
+    ensures { result ≡ spec.tells stands value }
+{
+    match stands {
+        None => false,
+        Some(true) => value <= 1 && 1 <= value,
+        Some(false) => value <= 0 && 0 <= value,
+    }
+}
+
+/// The register that is given on both ways.
+pub(crate) fn same_begun(left: Option<u32>, right: Option<u32>) -> Option<u32>
+    ensures { result ≡ spec.same_begun left right }
+{
+    match left {
+        None => None,
+        Some(register) => {
+            if is_register(right, register) {
+                Some(register)
+            } else {
+                None
+            }
+        }
+    }
+}
+
+/// Whether an object stands, where that is told on both ways.
+fn same_stand(left: Option<bool>, right: Option<bool>) -> Option<bool>
+    ensures { result ≡ spec.same_stand left right }
+{
+    match (left, right) {
+        (Some(true), Some(true)) => Some(true),
+        (Some(false), Some(false)) => Some(false),
+        _ => None,
+    }
+}
+
+/// Whether the same is told of two objects.
+fn as_open(left: Option<bool>, right: Option<bool>) -> bool
+    ensures { result ≡ spec.as_open left right }
+{
+    match (left, right) {
+        (Some(true), Some(true)) => true,
+        (Some(false), Some(false)) => true,
+        (None, None) => true,
+        _ => false,
+    }
+}
+
+impl Opened {
+    /// A local that has an object.
+    pub fn new(local: u32, begun: Option<u32>, has_value: bool) -> Opened
+        ensures { result ≡ spec.open_one local begun has_value }
+    {
+        Opened {
+            local,
+            begun,
+            has_value,
+            stands: Some(true),
+            flag: None,
+            is_told: false,
+        }
+    }
+
+    /// A local that has no object, with a flag.
+    pub fn awaited(local: u32, flag: u32) -> Opened
+        ensures { result ≡ record { local = local; begun = None; has_value = false; stands = Some false; flag = Some flag; is_told = false } }
+    {
+        Opened {
+            local,
+            begun: None,
+            has_value: false,
+            stands: Some(false),
+            flag: Some(flag),
+            is_told: false,
+        }
+    }
+
+    /// Whether it is this local.
+    pub fn is(&self, local: u32) -> bool
+        ensures { result ≡ spec.is_local local self.now }
+    {
+        self.local == local
+    }
+
+    /// Whether it is this local, whose object may stand.
+    pub fn is_open(&self, local: u32) -> bool
+        ensures { result ≡ spec.is_open_one local self.now }
+    {
+        self.local == local && !is_over(self.stands)
+    }
+
+    /// Whether it is this local, which may get its first value in this register.
+    pub fn may_begin(&self, local: u32, register: u32) -> bool
+        ensures { result ≡ walk.may_begin_one local register self.now }
+    {
+        self.local == local && is_register(self.begun, register)
+    }
+
+    /// Whether it is this local, which has its value.
+    pub fn has_its_value(&self, local: u32) -> bool
+        ensures { result ≡ walk.has_value_one local self.now }
+    {
+        self.is_open(local) && self.has_value
+    }
+
+    /// Whether only the flag tells that it stands, in this register.
+    pub fn goes_by(&self, register: u32) -> bool
+        ensures { result ≡ spec.goes_by register self.now }
+    {
+        is_register(self.flag, register) && (self.is_told && self.stands.is_none())
+    }
+
+    /// The register gets another value.
+    pub fn overwritten(self, register: u32) -> Opened
+        ensures { result ≡ spec.overwritten register self }
+    {
+        Opened {
+            begun: if is_register(self.begun, register) {
+                None
+            } else {
+                self.begun
+            },
+            is_told: !is_register(self.flag, register) && self.is_told,
+            ..self
+        }
+    }
+
+    /// What is still so where statements run any number of times.
+    pub fn settled(self) -> Opened
+        ensures { result ≡ spec.settled self }
+    {
+        Opened {
+            begun: None,
+            has_value: false,
+            flag: None,
+            is_told: false,
+            ..self
+        }
+    }
+
+    /// This local has a value from now on.
+    pub fn valued(self, local: u32) -> Opened
+        ensures { result ≡ spec.valued local self }
+    {
+        if self.local == local {
+            Opened {
+                has_value: true,
+                ..self
+            }
+        } else {
+            self
+        }
+    }
+
+    /// The object of this local is there, in this register, and has no value yet.
+    pub fn declared(self, local: u32, register: Option<u32>) -> Opened
+        ensures { result ≡ spec.declared_in local register self }
+    {
+        if self.local == local {
+            Opened {
+                begun: register,
+                has_value: false,
+                stands: Some(true),
+                is_told: false,
+                ..self
+            }
+        } else {
+            self
+        }
+    }
+
+    /// The flag holds this number from now on.
+    pub fn told(self, register: u32, value: i64) -> Opened
+        ensures { result ≡ spec.told_by register value self }
+    {
+        if is_register(self.flag, register) && tells(self.stands, value) {
+            Opened {
+                is_told: true,
+                ..self
+            }
+        } else {
+            self
+        }
+    }
+
+    /// Where a register holds a number that is not 0.
+    pub fn standing(self, register: u32) -> Opened
+        ensures { result ≡ spec.stands_by register self }
+    {
+        if self.goes_by(register) {
+            Opened {
+                stands: Some(true),
+                flag: None,
+                is_told: false,
+                ..self
+            }
+        } else {
+            self
+        }
+    }
+
+    /// What is so on both of two ways.
+    pub fn both(&self, other: &Opened) -> Opened
+        ensures { result ≡ spec.both_one self.now other.now }
+    {
+        Opened {
+            local: self.local,
+            begun: same_begun(self.begun, other.begun),
+            has_value: self.has_value && other.has_value,
+            stands: same_stand(self.stands, other.stands),
+            flag: same_begun(self.flag, other.flag),
+            is_told: self.is_told && other.is_told,
+        }
+    }
+
+    /// Whether it is the same local.
+    pub fn is_same(&self, other: &Opened) -> bool
+        ensures { result ≡ (self.now.local == other.now.local) }
+    {
+        self.local == other.local
+    }
+
+    /// Whether it is the same local, of which the same is told.
+    pub fn is_as_open(&self, other: &Opened) -> bool
+        ensures { result ≡ walk.alike self.now other.now }
+    {
+        self.local == other.local && as_open(self.stands, other.stands)
+    }
+}
