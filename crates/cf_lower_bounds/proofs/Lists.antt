@@ -3,7 +3,7 @@ use Rattle.std.proofs.Common.{◌≡◌, ℕ, Bool, true, false, ◌&&◌, ◌||
 use Rattle.std.specs.Prelude.{map, ℤ}
 use Rattle.std.proofs.lemmas.Bool.Decides.{nat_tests}
 use Rattle.cf_plain.specs.Plain.{Register}
-use Rattle.cf_lower_kept.specs.Opened.{Opened, is_local, is_over, is_open_one, is_open, is_listed, closed, is_register, valued, tells, told_by, set_in}
+use Rattle.cf_lower_kept.specs.Opened.{Opened, Counts, is_local, is_over, is_open_one, is_open, is_listed, closed, is_register, overwritten, valued, tells, told_by, counted, set_in}
 
 pub neither : (a b : Bool) → (a || b) ≡ false → (a ≡ false) × (b ≡ false)
 neither true b e = absurd (let k = e in cc)
@@ -16,6 +16,11 @@ none-of a b e h = ap (λ c. c || b) e ∙ h
 pub is_open-set : (r : Register) (i : ℕ) (xs : List Opened) → is_open i (set_in r xs) ≡ is_open i xs
 is_open-set r i [] = refl
 is_open-set r i (x ∷ xs) = ap (λ b. is_open_one i x || b) (is_open-set r i xs)
+
+-- nor one that gets a place
+pub is_open-placed : (r : Register) (f : Opened → Counts) (i : ℕ) (xs : List Opened) → is_open i (map (λ x. overwritten r (f x) x) xs) ≡ is_open i xs
+is_open-placed r f i [] = refl
+is_open-placed r f i (x ∷ xs) = ap (λ b. is_open_one i x || b) (is_open-placed r f i xs)
 
 valued-one : (i j : ℕ) (x : Opened) → is_open_one j (valued i x) ≡ is_open_one j x
 valued-one i j x = by (is_local i x)
@@ -42,6 +47,11 @@ pub is_open-told : (r : Register) (n : ℤ) (j : ℕ) (xs : List Opened) → is_
 is_open-told r n j [] = refl
 is_open-told r n j (x ∷ xs) =
     ap (λ b. b || is_open j (map (told_by r n) xs)) (told-one r n j x) ∙ ap (λ b. is_open_one j x || b) (is_open-told r n j xs)
+
+-- nor does the number that is in a register
+pub is_open-counted : (r : Register) (n : ℤ) (j : ℕ) (xs : List Opened) → is_open j (map (counted r n) xs) ≡ is_open j xs
+is_open-counted r n j [] = refl
+is_open-counted r n j (x ∷ xs) = ap (λ b. is_open_one j x || b) (is_open-counted r n j xs)
 
 -- where one is closed, another that is not open was not open before
 pub open-closed : (i j : ℕ) → j == i ≡ false → (xs : List Opened) → is_open j (closed i xs) ≡ false → is_open j xs ≡ false

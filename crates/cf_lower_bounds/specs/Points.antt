@@ -1,16 +1,19 @@
 -- Between two statements of a function: what registers hold, which of its parameters and locals have an object that stands, and what is so of both programs.
-use Rattle.std.specs.Prelude.{◌≡◌, ℕ, ◌<◌, Bool, true, false, List, [], ◌∷◌, length, ℤ, Option, Some, None}
+use Rattle.std.specs.Prelude.{◌≡◌, ℕ, ◌+◌, ◌<◌, Bool, true, false, List, [], ◌∷◌, length, ℤ, Option, Some, None}
 use Rattle.cf_core.specs.Types.{Name}
+use Rattle.cf_core.specs.Places.{Route, type_at}
+use Rattle.cf_core.specs.Pointers.{element_of, route_of}
 use Rattle.cf_core.specs.Store as source
 use Rattle.cf_core.specs.Run.{State}
 use Rattle.cf_core.specs.Calls.{root}
 use Rattle.cf_core.specs.Objects.{static_number}
+use Rattle.cf_lower_layout.specs.Layout.{leads}
 use Rattle.cf_plain.specs.Plain.{Register}
 use Rattle.cf_plain.specs.Acts.{Registers}
 use Rattle.cf_plain_frames.specs.Since.{HasValue}
 use Rattle.cc_whole_mean.specs.Flow as c
 use Rattle.cf_lower.specs.Kept.{Keeping}
-use Rattle.cf_lower_kept.specs.Opened.{Opened, is_open, flag_number}
+use Rattle.cf_lower_kept.specs.Opened.{Opened, Counts, rows_of, is_open, flag_number}
 use Rattle.cf_lower_turns.specs.Here.{Here}
 use Rattle.cf_lower_turns.specs.Scene.{Scene, GivesBack, fixed_in}
 
@@ -38,6 +41,23 @@ pub record Valued (count i : ℕ) (s : State) : Type 0 where
   pub one : Stands count i s
   pub value : HasValue (s.object one.object)
 
+-- so many elements further in the array (5.7)
+abbrev pub moved_route : ℕ → Route → Route
+moved_route k π = route_of (element_of π) ((element_of π).index + k)
+
+-- and a register has a place in it: so many elements further an object stands, of as many elements in turn as are told
+pub record Part (count i : ℕ) (r : Register) (k : ℕ) (rows : Counts) (g : Registers) (s : State) : Type 0 where
+  pub one : Stands count i s
+  pub route : Route
+  pub place : g r ≡ Some (source.At (record { object = one.object; route = route }))
+  pub inside : leads [] (s.object one.object).type (moved_route k route) ≡ true
+  pub rows : rows_of (type_at [] (s.object one.object).type route) ≡ rows
+
+-- what is told of a place in it
+abbrev pub Parts : ℕ → ℕ → Register → Counts → Registers → State → Type 0
+Parts count i r [] g s = Unit {0}
+Parts count i r (n ∷ rows) g s = (k : ℕ) → k < n → Part count i r k rows g s
+
 -- one of so many parameters and locals whose object does not stand
 abbrev pub IsOver : ℕ → ℕ → State → Type 0
 IsOver count i s = (o : ℕ) → i < count → s.frame.locals i ≡ Some o → (s.object o).is_gone ≡ true
@@ -46,8 +66,8 @@ abbrev pub IsTold : Option Bool → Bool → Type 0
 IsTold None b = Unit {0}
 IsTold (Some a) b = a ≡ b
 
--- The object stands or not, as is told; the register that it was declared in has its place until the first value, and once it has one it holds a value; and a flag of which
--- that is told tells whether it stands.
+-- The object stands or not, as is told; the register that it was declared in has its place until the first value, and once it has one it holds a value; a flag of which that is told
+-- tells whether it stands; registers have places in it as is told; and one holds the number that it was set to.
 pub record IsOpen (count : ℕ) (x : Opened) (g : Registers) (s : State) : Type 0 where
   pub way : Bool  -- whether it stands
   pub told : IsTold x.stands way
@@ -56,6 +76,8 @@ pub record IsOpen (count : ℕ) (x : Opened) (g : Registers) (s : State) : Type 
   pub begun : (r : Register) → x.begun ≡ Some r → Begun count x.local r g s
   pub value : x.has_value ≡ true → Valued count x.local s
   pub flag : x.is_told ≡ true → (r : Register) → x.flag ≡ Some r → g r ≡ Some (source.Number (flag_number way))
+  pub parts : (r : Register) → Parts count x.local r (x.places r) g s
+  pub last : (r : Register) (n : ℤ) → x.last ≡ Some (r, n) → g r ≡ Some (source.Number n)
 
 abbrev pub AllOpen : ℕ → List Opened → Registers → State → Type 0
 AllOpen count [] g s = Unit {0}

@@ -1,9 +1,9 @@
 -- A function with a switch of which a label passes a local: what is open there is what the switch before declares at the same label. And one with a local that stands where a branch was
 -- taken, with its flag.
-use Rattle.std.proofs.Common.{◌≡◌, true, false, [], ◌∷◌, refl}
+use Rattle.std.proofs.Common.{◌≡◌, ℕ, true, false, [], ◌∷◌, refl}
 use Rattle.std.specs.Prelude.{pos, codes, Some, None}
-use Rattle.cf_base.specs.declared.kind.Kind.TheVariants.{Int}
-use Rattle.cf_core.specs.Types.{SourceType, void, integer, reference, takes, gives, const}
+use Rattle.cf_base.specs.declared.kind.Kind.TheVariants.{Char, Int}
+use Rattle.cf_core.specs.Types.{SourceType, void, integer, reference, array, takes, gives, const}
 use Rattle.cf_core.specs.Core.{plain_function}
 use Rattle.cf_plain.specs.Plain.{number, local, function, read, truth, declare, first, finish, call, Plains, act, set, branch, switch, case_label, default_label, leave, give, nothing, more, PlainFunction}
 use Rattle.cf_lower_kept.specs.Opened.{function_opens}
@@ -74,3 +74,80 @@ flag_not_set = refl
 other_flag : function_opens (main_by (more (set 1 (number (pos 0))) called)) ≡ false
 unfolding f_type main_by called
 other_flag = refl
+
+-- int main(){int a[2]={1,2};return a[1];}, of which the second element may be stored elsewhere
+row : SourceType
+row = array (integer Int) 2
+
+listed_by : Plains → PlainFunction
+listed_by elements = record {
+  name = codes "__main";
+  role = plain_function;
+  type = gives (integer Int) false;
+  locals = row ∷ [];
+  body = more (set 0 (declare 0 row)) elements;
+  is_shared = false;
+  is_local = false;
+}
+
+at_end : Plains
+at_end =
+    more (set 0 (local 0)) (more (set 0 (decay 0)) (more (act (truth 0)) (more (set 1 (number (pos 1))) (more (set 0 (index 0 1)) (more (set 0 (read 0))
+    (more (act (truth 0)) (more (act (finish row 0)) (more (give (Some 0)) (more (act (finish row 0)) nothing)))))))))
+
+element_at : ℕ → Plains → Plains
+element_at i rest = more (set 1 (decay 0)) (more (set 2 (number (pos i))) (more (set 1 (index 1 2)) rest))
+
+both_elements : ℕ → Plains
+both_elements i =
+    element_at 0 (more (set 2 (number (pos 1))) (more (act (first 1 2))
+    (element_at i (more (set 2 (number (pos 2))) (more (act (first 1 2)) at_end)))))
+
+elements_stand : function_opens (listed_by (both_elements 1)) ≡ true
+unfolding row listed_by at_end element_at both_elements
+elements_stand = refl
+
+no_end_is_stored_at : function_opens (listed_by (both_elements 2)) ≡ false
+unfolding row listed_by at_end element_at both_elements
+no_end_is_stored_at = refl
+
+rest_is_filled : function_opens (listed_by (element_at 0 (more (set 2 (number (pos 1))) (more (act (first 1 2)) (element_at 1 (more (act (zeros 1)) at_end)))))) ≡ true
+unfolding row listed_by at_end element_at
+rest_is_filled = refl
+
+-- int a[2]={b&&1,2}; stores behind a branch, and the place stays told
+branched : function_opens (listed_by
+    (element_at 0 (more (set 2 (number (pos 1))) (more (set 2 (truth 2)) (more (branch 2 (more (set 2 (number (pos 1))) (more (set 2 (truth 2)) nothing)) nothing)
+    (more (act (first 1 2)) (element_at 1 (more (set 2 (number (pos 2))) (more (act (first 1 2)) at_end))))))))) ≡ true
+unfolding row listed_by at_end element_at
+branched = refl
+
+-- void f(){char s[2][3]={"ab",{'c'}};}
+texts : SourceType
+texts = array (array (integer Char) 3) 2
+
+text_lists : Plains → PlainFunction
+text_lists inner = record {
+  name = codes "f__Fv";
+  role = plain_function;
+  type = gives void false;
+  locals = texts ∷ [];
+  body =
+      more (set 0 (declare 0 texts))
+      (element_at 0 (more (act (bytes 1 (97 ∷ 98 ∷ 0 ∷ []))) (element_at 1 inner)));
+  is_shared = false;
+  is_local = false;
+}
+
+-- the element i of the list that is an element
+inner_at : ℕ → Plains → Plains
+inner_at i rest = more (set 2 (decay 1)) (more (set 3 (number (pos i))) (more (set 2 (index 2 3)) rest))
+
+nested : function_opens (text_lists
+    (inner_at 0 (more (set 3 (number (pos 99))) (more (act (first 2 3)) (inner_at 1 (more (act (zeros 2)) (inner_at 2 (more (act (zeros 2)) (more (act (finish texts 0)) nothing))))))))) ≡ true
+unfolding texts text_lists inner_at element_at
+nested = refl
+
+nested_end : function_opens (text_lists (inner_at 3 (more (act (zeros 2)) (more (act (finish texts 0)) nothing)))) ≡ false
+unfolding texts text_lists inner_at element_at
+nested_end = refl

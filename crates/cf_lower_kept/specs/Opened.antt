@@ -1,17 +1,24 @@
 -- Which parameters and locals of a plain function have an object where control is, and of which the first value is still to come: a local is declared where it has
 -- none, gets its first value, or is filled, in the register that it was declared in, is an argument once it has one, and is gone where the function ends. A switch of which a
 -- label passes a local stands behind a switch by the same register, which declares the local. What stands where one of two ways was taken alone, as a temporary in a branch, has a
--- flag: a register that is set to 0 before both and to 1 where the object is there, and by which a branch ends it.
-use Rattle.std.specs.Prelude.{ℕ, suc, Bool, true, false, ◌&&◌, not, ◌==◌, if◌then◌else◌, List, [], ◌∷◌, ◌++◌, map, filter, ℤ, pos, int_le, Option, Some, None}
+-- flag: a register that is set to 0 before both and to 1 where the object is there, and by which a branch ends it. A list stores at the elements of an array, so that of each register
+-- with a place in the object it is told how many elements stand from there on: the first element's place is that of the array, and another's is moved by a number.
+use Rattle.std.specs.Prelude.{ℕ, suc, ◌-◌, nat_lt, Bool, true, false, ◌&&◌, not, ◌==◌, if◌then◌else◌, List, [], ◌∷◌, ◌++◌, map, filter, ℤ, pos, negsuc, int_le, Option, Some, None, bytes_eq}
 use Rattle.std.specs.List.{list_all, list_any}
-use Rattle.cf_core.specs.Types.{SourceType, parameters, result as result_type}
-use Rattle.cf_plain.specs.Plain.{Register, Action, number, declare, first, zeros, bytes, finish, call, pointer_call, Plain, Plains, act, set, branch, loop, switch, case_label, default_label, leave, continue, give, parts, nothing, more, PlainFunction, PlainFile}
+use Rattle.cf_core.specs.Types.{SourceType, array, const, parameters, result as result_type}
+use Rattle.cf_plain.specs.Plain.{Register, Action, number, decay, index, declare, first, zeros, bytes, finish, call, pointer_call, Plain, Plains, act, set, branch, loop, switch, case_label, default_label, leave, continue, give, parts, nothing, more, PlainFunction, PlainFile}
 use Rattle.cf_plain.specs.Running.{has_case}
 use Rattle.cf_plain.specs.Valid.{has_default}
-use Rattle.cf_plain_kept.specs.Kept.{Kept, an_object, Keeping, nothing_set, after}
+use Rattle.cf_plain_kept.specs.Kept.{Kept, a_place, an_object, Keeping, nothing_set, after}
 
--- A local that may have an object: the register with its place while it has no value, and whether it has one; whether the object stands, if that is told; and its flag, if it has one,
--- of which may be told that it holds 1 where the object stands and 0 where it does not.
+-- Of a place: how many objects stand from there on in its array, or 1 of an object by itself; how many elements each of them has, if it is an array, how many each of these has, and so
+-- on. Nothing where nothing is told.
+abbrev pub Counts : Type 0
+Counts = List ℕ
+
+-- A local that may have an object: the register with its place while it has no value, and whether it has one; whether the object stands, if that is told; its flag, if it has one,
+-- of which may be told that it holds 1 where the object stands and 0 where it does not; what is told of the places in the object that registers have; and the number that was the
+-- last that a register was set to, while it holds it.
 pub record Opened : Type 0 where
   pub local : ℕ
   pub begun : Option Register
@@ -19,10 +26,15 @@ pub record Opened : Type 0 where
   pub stands : Option Bool
   pub flag : Option Register
   pub is_told : Bool
+  pub places : Register → Counts
+  pub last : Option (Register × ℤ)
+
+abbrev pub no_places : Register → Counts
+no_places r = []
 
 -- a local that has an object
 abbrev pub open_one : ℕ → Option Register → Bool → Opened
-open_one i r v = record { local = i; begun = r; has_value = v; stands = Some true; flag = None; is_told = false }
+open_one i r v = record { local = i; begun = r; has_value = v; stands = Some true; flag = None; is_told = false; places = no_places; last = None }
 
 abbrev pub is_local : ℕ → Opened → Bool
 is_local i x = x.local == i
@@ -53,13 +65,67 @@ abbrev pub is_register : Option Register → Register → Bool
 is_register None r = false
 is_register (Some q) r = q == r
 
--- the register gets another value
-abbrev pub overwritten : Register → Opened → Opened
-overwritten r x = record x { begun = if is_register x.begun r then None else x.begun; is_told = if is_register x.flag r then false else x.is_told }
+-- ---- places in an object
+
+-- how many elements an array has, how many each of them has, and so on
+abbrev pub rows_of : SourceType → Counts
+rows_of (array t n) = n ∷ rows_of t
+rows_of (const (array t n)) = n ∷ rows_of t
+rows_of t = []
+
+-- whether an object stands at the place
+abbrev pub has_object : Counts → Bool
+has_object [] = false
+has_object (n ∷ ns) = nat_lt 0 n
+
+-- of the first element of the array that stands there
+abbrev pub first_counts : Counts → Counts
+first_counts [] = []
+first_counts (n ∷ []) = []
+first_counts (n ∷ m ∷ ms) = if nat_lt 0 n then m ∷ ms else []
+
+-- so many elements further in the array, if that is told
+abbrev pub further_counts : Option ℤ → Counts → Counts
+further_counts z [] = []
+further_counts None (n ∷ ns) = []
+further_counts (Some (pos k)) (n ∷ ns) = (n - k) ∷ ns
+further_counts (Some (negsuc k)) (n ∷ ns) = []
+
+abbrev pub told_in : Register → Counts → (Register → Counts) → Register → Counts
+told_in r ns f q = if q == r then ns else f q
+
+-- the object itself, in the register that it was declared in
+abbrev pub object_in : Option Register → SourceType → Register → Counts
+object_in None t = no_places
+object_in (Some r) t = told_in r (1 ∷ rows_of t) no_places
+
+-- what is told on both of two ways
+abbrev pub same_places : (Register → Counts) → (Register → Counts) → Register → Counts
+same_places f h r = if bytes_eq (f r) (h r) then f r else []
+
+-- the number in a register, if it is the last that one was set to
+abbrev pub number_in : Option (Register × ℤ) → Register → Option ℤ
+number_in None r = None
+number_in (Some x) r = if x.0 == r then Some x.1 else None
+
+abbrev pub unless_in : Option (Register × ℤ) → Register → Option (Register × ℤ)
+unless_in None r = None
+unless_in (Some x) r = if x.0 == r then None else Some x
+
+-- ---- what changes of a local
+
+-- the register gets another value, a place in the object of which so much is told
+abbrev pub overwritten : Register → Counts → Opened → Opened
+overwritten r ns x = record x {
+  begun = if is_register x.begun r then None else x.begun;
+  is_told = if is_register x.flag r then false else x.is_told;
+  places = told_in r ns x.places;
+  last = unless_in x.last r;
+}
 
 -- what is still so where statements run any number of times, or from any label on
 abbrev pub settled : Opened → Opened
-settled x = record { local = x.local; begun = None; has_value = false; stands = x.stands; flag = None; is_told = false }
+settled x = record { local = x.local; begun = None; has_value = false; stands = x.stands; flag = None; is_told = false; places = no_places; last = None }
 
 abbrev pub valued : ℕ → Opened → Opened
 valued i x = if is_local i x then record x { has_value = true } else x
@@ -71,12 +137,15 @@ may_begin i r xs = list_any (λ x. is_local i x && is_register x.begun r) xs
 abbrev pub has_its_value : List Opened → ℕ → Bool
 has_its_value xs i = list_any (λ x. is_open_one i x && x.has_value) xs
 
--- its object is there, and has no value yet
-abbrev pub declared_in : ℕ → Option Register → Opened → Opened
-declared_in i r x = if is_local i x then record x { begun = r; has_value = false; stands = Some true; is_told = false } else x
+-- its object of this type is there, and has no value yet
+abbrev pub begun_in : Option Register → SourceType → Opened → Opened
+begun_in r t x = record x { begun = r; has_value = false; stands = Some true; is_told = false; places = object_in r t }
 
-abbrev pub declared_among : ℕ → Option Register → List Opened → List Opened
-declared_among i r xs = if is_listed i xs then map (declared_in i r) xs else open_one i r false ∷ xs
+abbrev pub declared_in : ℕ → Option Register → SourceType → Opened → Opened
+declared_in i r t x = if is_local i x then begun_in r t x else x
+
+abbrev pub declared_among : ℕ → Option Register → SourceType → List Opened → List Opened
+declared_among i r t xs = if is_listed i xs then map (declared_in i r t) xs else begun_in r t (open_one i r false) ∷ xs
 
 abbrev pub differ : List ℕ → Bool
 differ [] = true
@@ -97,9 +166,13 @@ tells (Some b) z = int_le z (flag_number b) && int_le (flag_number b) z
 abbrev pub told_by : Register → ℤ → Opened → Opened
 told_by r z x = if is_register x.flag r && tells x.stands z then record x { is_told = true } else x
 
+-- the register was set to this number
+abbrev pub counted : Register → ℤ → Opened → Opened
+counted r z x = record x { last = Some (r, z) }
+
 abbrev pub numbered : Option Register → ℤ → List Opened → List Opened
 numbered None z xs = xs
-numbered (Some r) z xs = map (told_by r z) xs
+numbered (Some r) z xs = map (counted r z) (map (told_by r z) xs)
 
 -- whether only the flag tells that it stands, in this register
 abbrev pub is_unknown : Option Bool → Bool
@@ -138,7 +211,8 @@ ended_by r (more s ss) = or_behind (ended_in r s) (ended_by r ss)
 abbrev pub awaited : Register → Option ℕ → List Opened → List Opened
 awaited r None xs = xs
 awaited r (Some i) xs =
-    if is_listed i xs then xs else record { local = i; begun = None; has_value = false; stands = Some false; flag = Some r; is_told = false } ∷ xs
+    if is_listed i xs then xs
+    else record { local = i; begun = None; has_value = false; stands = Some false; flag = Some r; is_told = false; places = no_places; last = None } ∷ xs
 
 -- before a statement with others behind it: what is set to a number may be the flag by which they end a local
 abbrev pub prepared : Plain → Plains → List Opened → List Opened
@@ -151,9 +225,11 @@ abbrev pub object_kept : Option Kept → Option ℕ
 object_kept (Some (an_object i t)) = Some i
 object_kept x = None
 
-abbrev pub begun_well : Option ℕ → Register → List Opened → Bool
-begun_well None r xs = false
-begun_well (Some i) r xs = may_begin i r xs
+-- whether something may begin in this register: an object without a value, or a part of one
+abbrev pub starts_well : Option Kept → Register → List Opened → Bool
+starts_well (Some (an_object i t)) r xs = may_begin i r xs
+starts_well (Some (a_place t)) r xs = list_any (λ x. has_object (x.places r)) xs
+starts_well x r xs = false
 
 abbrev pub valued_in : Option ℕ → List Opened → List Opened
 valued_in None xs = xs
@@ -161,9 +237,9 @@ valued_in (Some i) xs = map (valued i) xs
 
 abbrev pub action_opens : Keeping → Action → List Opened → Bool
 action_opens g (declare i t) xs = not (is_open i xs)
-action_opens g (first r q) xs = begun_well (object_kept (g r)) r xs
-action_opens g (zeros r) xs = begun_well (object_kept (g r)) r xs
-action_opens g (bytes r b) xs = begun_well (object_kept (g r)) r xs
+action_opens g (first r q) xs = starts_well (g r) r xs
+action_opens g (zeros r) xs = starts_well (g r) r xs
+action_opens g (bytes r b) xs = starts_well (g r) r xs
 action_opens g (finish t i) xs = is_open i xs
 action_opens g (call name t object is into) xs = differ is && list_all (has_its_value xs) is
 action_opens g (pointer_call object r t is into) xs = differ is && list_all (has_its_value xs) is
@@ -172,12 +248,21 @@ action_opens g a xs = true
 -- behind an action, whose value goes to this register, if to any
 abbrev pub opened_by : Keeping → Option Register → Action → List Opened → List Opened
 opened_by g r (number z) xs = numbered r z xs
-opened_by g r (declare i t) xs = declared_among i r xs
+opened_by g r (declare i t) xs = declared_among i r t xs
 opened_by g r (first p q) xs = valued_in (object_kept (g p)) xs
 opened_by g r (finish t i) xs = closed i xs
 opened_by g r (call name t object is into) xs = closed_all is xs
 opened_by g r (pointer_call object q t is into) xs = closed_all is xs
 opened_by g r a xs = xs
+
+abbrev pub set_in : Register → List Opened → List Opened
+set_in r xs = map (overwritten r []) xs
+
+-- behind an action whose value goes to this register, and may be a place in an object
+abbrev pub set_by : Keeping → Register → Action → List Opened → List Opened
+set_by g r (decay q) xs = map (λ x. overwritten r (first_counts (x.places q)) x) xs
+set_by g r (index p q) xs = map (λ x. overwritten r (further_counts (number_in x.last q) (x.places p)) x) xs
+set_by g r a xs = opened_by g (Some r) a (set_in r xs)
 
 -- ---- statements
 
@@ -210,6 +295,8 @@ both_one x y = record {
   stands = same_stand x.stands y.stands;
   flag = same_begun x.flag y.flag;
   is_told = x.is_told && y.is_told;
+  places = same_places x.places y.places;
+  last = None;
 }
 
 abbrev pub both_opened : List Opened → List Opened → List Opened
@@ -248,9 +335,6 @@ is_at (Some ys) xs = same_open ys xs
 abbrev pub only_if : Bool → Where → Where
 only_if true x = x
 only_if false x = wrong
-
-abbrev pub set_in : Register → List Opened → List Opened
-set_in r xs = map (overwritten r) xs
 
 abbrev pub keeping_or : Option Keeping → Keeping
 keeping_or None = nothing_set
@@ -296,7 +380,7 @@ module _ (locals : List SourceType) (result : SourceType) where
     -- a statement, before which registers hold this and these are open
     pub opens : Plain → Keeping → Ways → List Opened → Where
     opens (act a) g w xs = only_if (action_opens g a xs) (falls (opened_by g None a xs))
-    opens (set r a) g w xs = only_if (action_opens g a xs) (falls (opened_by g (Some r) a (set_in r xs)))
+    opens (set r a) g w xs = only_if (action_opens g a xs) (falls (set_by g r a xs))
     opens (branch r ss ts) g w xs = joined (all_open ss g w (where_set r xs)) (all_open ts g w (where_unset r xs))
     opens (loop ss ts) g w xs =
         let ys = map settled xs in

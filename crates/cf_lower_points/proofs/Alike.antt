@@ -39,7 +39,8 @@ use Rattle.cf_lower_bounds.specs.Points.{Point, point_at, local_count, At}
 use Rattle.cf_lower_bounds.specs.Bounds.{EndsAt, LeafRunsTo}
 use Rattle.cf_lower_points.specs.Leading.{leads_on, standing_behind, point_behind}
 use Rattle.cf_lower_points.proofs.Before.{before}
-use Rattle.cf_lower_points.proofs.Led.{Given, Behind, led}
+use Rattle.cf_lower_points.proofs.Led.{Behind, led}
+use Rattle.cf_lower_points.proofs.Results.{Given}
 
 -- ---- what stands around, with what registers hold at its points
 

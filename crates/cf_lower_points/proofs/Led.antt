@@ -1,5 +1,5 @@
 -- Where plain statements that are no control lead to: what they make of the frame, and which locals stand behind them.
-use Rattle.std.proofs.Common.{◌≡◌, ℕ, zero, suc, ◌<◌, nat_lt, Bool, true, false, ◌&&◌, ◌||◌, ◌==◌, not, if◌then◌else◌, List, [], ◌∷◌, refl, sym, ◌∙◌, ap, subst, arith}
+use Rattle.std.proofs.Common.{◌≡◌, ℕ, zero, suc, ◌<◌, nat_lt, Bool, true, false, ◌&&◌, ◌||◌, ◌==◌, not, if◌then◌else◌, List, [], ◌∷◌, refl, sym, ◌∙◌, ap, subst, arith, ◌⊎◌, inl, inr}
 use Rattle.std.specs.Prelude.{ℤ, Option, Some, None, map}
 use Rattle.std.proofs.lemmas.Bool.Decides.{nat_tests}
 use Rattle.cf_base.proofs.Tests.{both}
@@ -22,40 +22,20 @@ use Rattle.cf_plain_frames.specs.Since.{HasValue, Always}
 use Rattle.cf_plain_frames.proofs.Values.{keeps-used_in}
 use Rattle.cf_plain_kept.specs.Kept as told
 use Rattle.cf_lower.specs.Kept.{Keeping}
-use Rattle.cf_lower_kept.specs.Opened.{Opened, closed, declared_among, told_by, object_kept, action_opens, opened_by, valued_in, set_in}
+use Rattle.cf_lower_kept.specs.Opened.{Opened, first_counts, further_counts, number_in, closed, declared_among, told_by, counted, object_kept, action_opens, opened_by, set_by, valued_in, set_in}
 use Rattle.cf_lower_turns.specs.Scene.{Scene}
 use Rattle.cf_lower_actions.specs.Leaf.{may_set, may_do, is_leaf}
 use Rattle.cf_lower_actions.specs.Leaf as leaf
 use Rattle.cf_lower_bounds.specs.Points.{Standing, never, these, Open, StandsAs, InFrame, local_count}
 use Rattle.cf_lower_points.specs.Leading.{leads_on, standing_behind}
-use Rattle.cf_lower_points.proofs.Before.{begun-as, declared-below}
+use Rattle.cf_lower_points.proofs.Before.{starts-as, BegunAs, PartAs, declared-below}
+use Rattle.cf_lower_points.proofs.Beginning.{open-declared, frame-declared, open-finished, frame-finished}
+use Rattle.cf_lower_points.proofs.Indexed.{decay-gives, index-gives}
+use Rattle.cf_lower_points.proofs.Placed.{GivesFirst, GivesFurther, first-parts, further-parts}
 use Rattle.cf_lower_points.proofs.Quiet.{is_quiet, quiet-opens}
-use Rattle.cf_lower_points.proofs.Standing.{Bounded, begun-member, open-set, open-told, open-stays, open-valued, open-declared, frame-declared, open-finished, frame-finished, frame-stays}
-use Rattle.cf_lower_points.proofs.Stays.{Stays, stays-itself, quiet-stays, keeps-first_value}
-
--- ---- what a run gives
-
-abbrev pub InGiven : {A : Type 0} → (A → State → Type 0) → Ran (Did A) → Type 0
-InGiven Q (Went (Gives a s) w) = Q a s
-InGiven Q (Went (Exits status s) w) = Unit {0}
-InGiven Q (Went Malformed w) = Unit {0}
-InGiven Q (Stops end trace) = Unit {0}
-
-pub record Given {A : Type 0} (Q : A → State → Type 0) (x : Ran (Did A)) : Type 0 where
-  pub by : InGiven Q x
-
-given-then : {A B : Type 0} (P : A → State → Type 0) (Q : B → State → Type 0) (x : Ran (Did A)) (go : A → Act B) → Given P x
-    → ((a : A) (s : State) (w : World) → P a s → Given Q (go a s w)) → Given Q (and_then x (λ did w. onward did go w))
-given-then P Q (Went (Gives a s) w) go h k = k a s w h.by
-given-then P Q (Went (Exits z s) w) go h k = record { by = tt }
-given-then P Q (Went Malformed w) go h k = record { by = tt }
-given-then P Q (Stops end trace) go h k = record { by = tt }
-
-given-always : {A : Type 0} (Q : State → Type 0) (x : Ran (Did A)) → Always Q x → Given (λ (a : A) s. Q s) x
-given-always Q (Went (Gives a s) w) h = record { by = h.by }
-given-always Q (Went (Exits z s) w) h = record { by = tt }
-given-always Q (Went Malformed w) h = record { by = tt }
-given-always Q (Stops end trace) h = record { by = tt }
+use Rattle.cf_lower_points.proofs.Results.{Given, given-then, given-always, given-both}
+use Rattle.cf_lower_points.proofs.Standing.{Bounded, begun-member, open-placed, open-set, open-told, open-counted, open-stays, open-valued, frame-stays}
+use Rattle.cf_lower_points.proofs.Stays.{Stays, stays-itself, first-stays, quiet-stays, keeps-first_value}
 
 -- ---- what is so behind a statement: it falls to where these stand, or returns and none stands
 
@@ -75,6 +55,21 @@ itself o = grind (arith, nat_tests)
 kept-same : (g : Registers) (r : Register) (v : source.Value) → keep g r v r ≡ Some v
 kept-same g zero v = refl
 kept-same g (suc r) v = kept-same (λ q. g (suc q)) r v
+
+-- what the number that was set last tells of a register
+number-there : (g : Registers) (o : Option (Register × ℤ)) (q : Register) → ((r : Register) (n : ℤ) → o ≡ Some (r, n) → g r ≡ Some (source.Number n)) → (n : ℤ)
+    → number_in o q ≡ Some n → g q ≡ Some (source.Number n)
+number-there g None q holds n e = absurd (let k = e in cc)
+number-there g (Some x) q holds n e = by_test (x.0 == q) refl e
+  where
+    some-number : {a b : ℤ} → Some a ≡ Some b → a ≡ b
+    some-number e = cc
+
+    by_test : (b : Bool) → x.0 == q ≡ b → (if b then Some x.1 else None) ≡ Some n → g q ≡ Some (source.Number n)
+    by_test true k e =
+        let same : x.0 ≡ q = grind (arith, nat_tests, k) in
+        subst (λ (r : Register). g r ≡ Some (source.Number n)) same (holds x.0 n (ap (λ (m : ℤ). Some (x.0, m)) (some-number e)))
+    by_test false k e = absurd (let i = e in cc)
 
 module _ (z : Scene) (again : Again) (gk : told.Keeping) (h : Keeping) (xs : List Opened) (g : Registers) (s : State) (w : World)
     (open_here : Open (local_count z) xs g s) (frame : InFrame z s) (bounded : Bounded (local_count z) s)
@@ -115,19 +110,55 @@ module _ (z : Scene) (again : Again) (gk : told.Keeping) (h : Keeping) (xs : Lis
   number-act : (y : ℤ) → Given (Behind z (these xs)) (does_so (act (plain.number y)))
   number-act y = record { by = (frame, open_here) }
 
-  number-set : (r : Register) (y : ℤ) → Given (Behind z (these (map (told_by r y) (set_in r xs)))) (does_so (set r (plain.number y)))
+  number-set : (r : Register) (y : ℤ) → Given (Behind z (these (map (counted r y) (map (told_by r y) (set_in r xs))))) (does_so (set r (plain.number y)))
   number-set r y = record {
     by = (
       frame,
-      open-told (local_count z) r y (keep g r (source.Number y)) s (set_in r xs) (kept-same g r (source.Number y))
-          (open-set (local_count z) r (source.Number y) g s xs open_here),
+      open-counted (local_count z) r y (keep g r (source.Number y)) s (map (told_by r y) (set_in r xs)) (kept-same g r (source.Number y))
+          (open-told (local_count z) r y (keep g r (source.Number y)) s (set_in r xs) (kept-same g r (source.Number y))
+          (open-set (local_count z) r (source.Number y) g s xs open_here)),
     );
   }
+
+  -- ---- a place in an object
+
+  decay-set : (r q : Register) → Given (Behind z (these (set_by gk r (plain.decay q) xs))) (does_so (set r (plain.decay q)))
+  decay-set r q =
+      given-then (λ (v : source.Value) (u : State). Stays s u × GivesFirst g q v) (Behind z (these (set_by gk r (plain.decay q) xs)))
+      (acts (calls again) z.program g (plain.decay q) s w) (λ (v : source.Value). gives (Falls (keep g r v)))
+      (given-both (λ (v : source.Value) (u : State). Stays s u) (λ (v : source.Value) (u : State). GivesFirst g q v) (acts (calls again) z.program g (plain.decay q) s w)
+      (given-always (Stays s) (acts (calls again) z.program g (plain.decay q) s w) ((quiet-stays s again z.program g (plain.decay q) refl).by s w (stays-itself s)))
+      (decay-gives again z.program g s w q))
+      (λ v u w two. record {
+        by = (
+          frame-stays z s u two.0 frame statics,
+          open-placed (local_count z) r v (λ x. first_counts (x.places q)) g u
+              (λ x k. first-parts (local_count z) x.local g (keep g r v) u r v (kept-same g r v) q two.1 (x.places q) (k.parts q)) xs
+              (open-stays (local_count z) g s u two.0 bounded xs open_here),
+        );
+      })
+
+  index-set : (r p q : Register) → Given (Behind z (these (set_by gk r (plain.index p q) xs))) (does_so (set r (plain.index p q)))
+  index-set r p q =
+      given-then (λ (v : source.Value) (u : State). Stays s u × GivesFurther g p q v) (Behind z (these (set_by gk r (plain.index p q) xs)))
+      (acts (calls again) z.program g (plain.index p q) s w) (λ (v : source.Value). gives (Falls (keep g r v)))
+      (given-both (λ (v : source.Value) (u : State). Stays s u) (λ (v : source.Value) (u : State). GivesFurther g p q v) (acts (calls again) z.program g (plain.index p q) s w)
+      (given-always (Stays s) (acts (calls again) z.program g (plain.index p q) s w) ((quiet-stays s again z.program g (plain.index p q) refl).by s w (stays-itself s)))
+      (index-gives again z.program g s w p q))
+      (λ v u w two. record {
+        by = (
+          frame-stays z s u two.0 frame statics,
+          open-placed (local_count z) r v (λ x. further_counts (number_in x.last q) (x.places p)) g u
+              (λ x k. further-parts (local_count z) x.local g (keep g r v) u r v (kept-same g r v) p q two.1 (number_in x.last q) (number-there g x.last q k.last)
+              (x.places p) (k.parts p)) xs
+              (open-stays (local_count z) g s u two.0 bounded xs open_here),
+        );
+      })
 
   -- ---- a declaration
 
   module _ (i : ℕ) (t : SourceType) (lt : i < local_count z) where
-    declare-act : (b : Bool) → Given (Behind z (these (declared_among i None xs)))
+    declare-act : (b : Bool) → Given (Behind z (these (declared_among i None t xs)))
         (((valid b >> (declared_object t >>= (λ o. frame_changed (lists_local i o) >> gives o))) >>= (λ o. gives (source.At (root o))) >> gives (Falls g)) s w)
     declare-act true = record {
       by = (
@@ -137,7 +168,7 @@ module _ (z : Scene) (again : Again) (gk : told.Keeping) (h : Keeping) (xs : Lis
     }
     declare-act false = record { by = tt }
 
-    declare-set : (r : Register) (b : Bool) → Given (Behind z (these (declared_among i (Some r) (set_in r xs))))
+    declare-set : (r : Register) (b : Bool) → Given (Behind z (these (declared_among i (Some r) t (set_in r xs))))
         (((valid b >> (declared_object t >>= (λ o. frame_changed (lists_local i o) >> gives o))) >>= (λ o. gives (source.At (root o))) >>= (λ v. gives (Falls (keep g r v)))) s w)
     declare-set r true = record {
       by = (
@@ -204,6 +235,19 @@ module _ (z : Scene) (again : Again) (gk : told.Keeping) (h : Keeping) (xs : Lis
         subst (λ y. Given Led ((((some_or y malformed >>= used) >>= place_of) >>= (λ x. held g q >>= (λ v. doing (settle z.program.classes x v))) >> gives (Falls g)) s w)) (sym place)
         (by-value (g q) refl)
 
+  -- the first value of a part changes nothing that is told
+  part-act : (p q : Register) (t : SourceType) → gk p ≡ Some (told.a_place t) → Given (Behind z (these (opened_by gk None (plain.first p q) xs))) (does_so (act (plain.first p q)))
+  part-act p q t is =
+      given-then (λ (v : source.Value) u. Stays s u) (Behind z (these (opened_by gk None (plain.first p q) xs))) (acts (calls again) z.program g (plain.first p q) s w)
+      (λ (v : source.Value). gives (Falls g))
+      (given-always (Stays s) (acts (calls again) z.program g (plain.first p q) s w) ((first-stays s again z.program g p q).by s w (stays-itself s)))
+      (λ v u w st. record {
+        by = (
+          frame-stays z s u st frame statics,
+          subst (λ k. Open (local_count z) (valued_in (object_kept k) xs) g u) (sym is) (open-stays (local_count z) g s u st bounded xs open_here),
+        );
+      })
+
   -- ---- the end of a local
 
   module _ (i : ℕ) (t : SourceType) (lt : i < local_count z) (some : has_bytes t ≡ true) where
@@ -236,10 +280,13 @@ module _ (z : Scene) (again : Again) (gk : told.Keeping) (h : Keeping) (xs : Lis
   act-led : (a : Action) → may_do z h a ≡ true → action_opens gk a xs ≡ true → LedBy (act a)
   act-led (plain.declare i t) l e =
       declare-act i t (declared-below z i t l) (nat_lt i s.frame.count)
-  act-led (plain.first p q) l e =
-      let x = begun-as (gk p) p xs e in
-      let m = begun-member (local_count z) g s x.local p xs x.test open_here.each in
-      first-act p q x.local m.one.object x.type x.is m.one.below m.one.there m.one.stands m.place (bounded x.local m.one.object m.one.below m.one.there) (built_none q p l)
+  act-led (plain.first p q) l e = by_start (starts-as (gk p) p xs e)
+    where
+      by_start : BegunAs (gk p) p xs ⊎ PartAs (gk p) p xs → LedBy (act (plain.first p q))
+      by_start (inl x) =
+          let m = begun-member (local_count z) g s x.local p xs x.test open_here.each in
+          first-act p q x.local m.one.object x.type x.is m.one.below m.one.there m.one.stands m.place (bounded x.local m.one.object m.one.below m.one.there) (built_none q p l)
+      by_start (inr x) = part-act p q x.type x.is
   act-led (plain.finish t i) l e =
       let two = both (nat_lt i (local_count z)) (has_bytes t) l in
       finish-act i t (number-below i (local_count z) two.0) two.1
@@ -274,8 +321,8 @@ module _ (z : Scene) (again : Again) (gk : told.Keeping) (h : Keeping) (xs : Lis
   set-led r (plain.function name t) l e = quiet-set r (plain.function name t) refl
   set-led r (plain.read q) l e = quiet-set r (plain.read q) refl
   set-led r (plain.dereference q) l e = quiet-set r (plain.dereference q) refl
-  set-led r (plain.decay q) l e = quiet-set r (plain.decay q) refl
-  set-led r (plain.index p q) l e = quiet-set r (plain.index p q) refl
+  set-led r (plain.decay q) l e = decay-set r q
+  set-led r (plain.index p q) l e = index-set r p q
   set-led r (plain.convert t q) l e = quiet-set r (plain.convert t q) refl
   set-led r (plain.from_void t q) l e = quiet-set r (plain.from_void t q) refl
   set-led r (plain.operate op k p q) l e = quiet-set r (plain.operate op k p q) refl

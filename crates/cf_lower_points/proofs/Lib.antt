@@ -1,6 +1,10 @@
 pub mod Quiet
 pub mod Stays
+pub mod Results
+pub mod Placed
+pub mod Indexed
 pub mod Standing
+pub mod Beginning
 pub mod Before
 pub mod Led
 pub mod Alike

@@ -8,7 +8,7 @@ use Rattle.cf_plain.specs.Plain as plain
 use Rattle.cf_plain.specs.Plain.{Plain, Plains, act, set, give, nothing, more}
 use Rattle.cf_plain_kept.specs.Kept as told
 use Rattle.cf_lower.specs.Kept.{Keeping, Locals, nothing_kept, after}
-use Rattle.cf_lower_kept.specs.Opened.{Opened, open_one, keeping_or}
+use Rattle.cf_lower_kept.specs.Opened.{Opened, opened_by, set_by, keeping_or}
 use Rattle.cf_lower_kept.specs.Told.{AllTold}
 use Rattle.cf_lower_kept.proofs.Statements.{statement-told}
 use Rattle.cf_lower_turns.specs.Around.{Around, function}
@@ -107,33 +107,45 @@ module _ (z : Scene) (fits : Fits (small_scene z)) (n : ℕ) where
   tells5 : AllTold one_local g5 h5
   tells5 = statement-told one_local (integer Int) fifth_statement g4 h4 tells4 refl
 
+  -- what is open behind a statement
+  abbrev opened : told.Keeping → Plain → List Opened → List Opened
+  opened g (act a) xs = opened_by g None a xs
+  opened g (set r a) xs = set_by g r a xs
+  opened g st xs = xs
+
   -- the local as it is declared, and once it has its value
-  abbrev begun : Opened
-  begun = open_one 0 (Some 0) false
+  abbrev x1 : List Opened
+  x1 = opened told.nothing_set first_statement []
 
-  abbrev valued : Opened
-  valued = open_one 0 (Some 0) true
+  abbrev x2 : List Opened
+  x2 = opened g1 second_statement x1
 
-  abbrev later : Opened
-  later = open_one 0 None true
+  abbrev x3 : List Opened
+  x3 = opened g2 third_statement x2
+
+  abbrev x4 : List Opened
+  x4 = opened g3 fourth_statement x3
+
+  abbrev x5 : List Opened
+  x5 = opened g4 fifth_statement x4
 
   one : Leads told.nothing_set nothing_kept first_statement []
   one = leads-on (small_scene z) fits here told.nothing_set nothing_kept [] (λ r. tt) first_statement refl refl n
 
-  two : Leads g1 h1 second_statement (begun ∷ [])
-  two = leads-on (small_scene z) fits here g1 h1 (begun ∷ []) tells1 second_statement refl refl n
+  two : Leads g1 h1 second_statement x1
+  two = leads-on (small_scene z) fits here g1 h1 x1 tells1 second_statement refl refl n
 
-  three : Leads g2 h2 third_statement (begun ∷ [])
-  three = leads-on (small_scene z) fits here g2 h2 (begun ∷ []) tells2 third_statement refl refl n
+  three : Leads g2 h2 third_statement x2
+  three = leads-on (small_scene z) fits here g2 h2 x2 tells2 third_statement refl refl n
 
-  four : Leads g3 h2 fourth_statement (valued ∷ [])
-  four = leads-on (small_scene z) fits here g3 h2 (valued ∷ []) tells3 fourth_statement refl refl n
+  four : Leads g3 h2 fourth_statement x3
+  four = leads-on (small_scene z) fits here g3 h2 x3 tells3 fourth_statement refl refl n
 
-  five : Leads g4 h4 fifth_statement (later ∷ [])
-  five = leads-on (small_scene z) fits here g4 h4 (later ∷ []) tells4 fifth_statement refl refl n
+  five : Leads g4 h4 fifth_statement x4
+  five = leads-on (small_scene z) fits here g4 h4 x4 tells4 fifth_statement refl refl n
 
-  six : Leads g5 h5 sixth_statement (later ∷ [])
-  six = leads-on (small_scene z) fits here g5 h5 (later ∷ []) tells5 sixth_statement refl refl n
+  six : Leads g5 h5 sixth_statement x5
+  six = leads-on (small_scene z) fits here g5 h5 x5 tells5 sixth_statement refl refl n
 
   seven : Leads (behind g5 sixth_statement) h5 (give (Some 0)) []
   seven = leads-on (small_scene z) fits here (behind g5 sixth_statement) h5 []
@@ -142,23 +154,23 @@ module _ (z : Scene) (fits : Fits (small_scene z)) (n : ℕ) where
   -- control does not come behind the return
   pub small-needed : (q : Point) → NeededTo (small_scene z) n small_function here (point_at nothing_kept []) q
   small-needed q = record {
-    point = point_at h1 (begun ∷ []);
+    point = point_at h1 x1;
     kept_there = refl;
     first = one;
     second = record {
-      point = point_at h2 (begun ∷ []);
+      point = point_at h2 x2;
       kept_there = refl;
       first = two;
       second = record {
-        point = point_at h2 (valued ∷ []);
+        point = point_at h2 x3;
         kept_there = refl;
         first = three;
         second = record {
-          point = point_at h4 (later ∷ []);
+          point = point_at h4 x4;
           kept_there = refl;
           first = four;
           second = record {
-            point = point_at h5 (later ∷ []);
+            point = point_at h5 x5;
             kept_there = refl;
             first = five;
             second = record {

@@ -7,21 +7,21 @@ use Rattle.cf_base.specs.Integers.{convert as converted}
 use Rattle.cf_core.specs.Types.{is_array}
 use Rattle.cf_core.specs.Classes.{Class}
 use Rattle.cf_core.specs.Core.{item}
-use Rattle.cf_core.specs.Places.{Place, inner, type_at}
-use Rattle.cf_core.specs.Store.{Value, Nothing, Number, At, Code, Object, hold, hold_all, zero_of, is_constant_place}
-use Rattle.cf_core.specs.Run.{State, Literal, Act, upd, ◌>>=◌, ◌>>◌, gives, need, valid, object_changed}
-use Rattle.cf_core.specs.Access.{place_type, names_scalar, use_place, first_value, write_place, read_place, followed, fill_zeros}
+use Rattle.cf_core.specs.Places.{Place, inner, type_at, is_scalar}
+use Rattle.cf_core.specs.Store.{Value, Nothing, Built, Number, At, Code, Object, hold, hold_all, zero_of, is_constant_place}
+use Rattle.cf_core.specs.Run.{State, Literal, Act, upd, ◌>>=◌, ◌>>◌, gives, malformed, state, need, valid, when, object_changed}
+use Rattle.cf_core.specs.Access.{place_type, used, names_scalar, use_place, first_value, write_place, read_place, followed, fill_zeros}
 use Rattle.cf_core.specs.Pointers.{truth_value, pointer_op, from_void_value}
 use Rattle.cf_core.specs.Scalars.{truth_of, converted_value, operated, signed, changed_value, indexed, decayed, pointed_to}
 use Rattle.cf_core.specs.Calls.{Program, root, name_function}
-use Rattle.cf_core.specs.Objects.{local_place, static_place, same_type, literal_of, found_literal, literal_object, write_bytes, element_count}
+use Rattle.cf_core.specs.Objects.{local_place, static_place, same_type, literal_of, found_literal, literal_object, settle, write_bytes, element_count}
 use Rattle.cf_plain.specs.Plain as plain
 use Rattle.cf_plain.specs.Plain.{Register, Action}
 use Rattle.cf_plain.specs.Acts.{Registers, held, used_in, place_in, doing, acts}
 use Rattle.cf_plain.specs.Running.{Again, calls}
 use Rattle.cf_plain_frames.specs.Since.{HasValue, Keeps}
-use Rattle.cf_plain_frames.proofs.Acts.{keeps-then, keeps-next, keeps-gives, keeps-need, keeps-valid, keeps-some, keeps-at}
-use Rattle.cf_plain_frames.proofs.Values.{keeps-truth, keeps-pointed, keeps-converted, keeps-operated, keeps-signed, keeps-changed, keeps-indexed, keeps-decayed, keeps-pointers, keeps-from_void, keeps-names, keeps-use, keeps-read, keeps-followed, keeps-local, keeps-static, keeps-same_type, keeps-function, keeps-held, keeps-used_in, keeps-place_in}
+use Rattle.cf_plain_frames.proofs.Acts.{keeps-then, keeps-next, keeps-gives, keeps-malformed, keeps-need, keeps-valid, keeps-some, keeps-when, keeps-at}
+use Rattle.cf_plain_frames.proofs.Values.{keeps-used, keeps-truth, keeps-pointed, keeps-converted, keeps-operated, keeps-signed, keeps-changed, keeps-indexed, keeps-decayed, keeps-pointers, keeps-from_void, keeps-names, keeps-use, keeps-read, keeps-followed, keeps-local, keeps-static, keeps-same_type, keeps-function, keeps-held, keeps-used_in, keeps-place_in}
 use Rattle.cf_plain_frames.proofs.Objects.{hold-has, hold_all-has, value-at}
 use Rattle.cf_lower_points.proofs.Quiet.{is_quiet}
 
@@ -29,10 +29,11 @@ pub record Stays (e s : State) : Type 0 where
   pub next : e.next ≤ s.next
   pub frame : s.frame ≡ e.frame
   pub gone : (o : ℕ) → o < e.next → (s.object o).is_gone ≡ (e.object o).is_gone
+  pub type : (o : ℕ) → o < e.next → (s.object o).type ≡ (e.object o).type
   pub valued : (o : ℕ) → o < e.next → HasValue (e.object o) → HasValue (s.object o)
 
 pub stays-itself : (s : State) → Stays s s
-stays-itself s = record { next = omega arith; frame = refl; gone = λ o lt. refl; valued = λ o lt v. v }
+stays-itself s = record { next = omega arith; frame = refl; gone = λ o lt. refl; type = λ o lt. refl; valued = λ o lt v. v }
 
 module _ (e : State) where
   abbrev Q : State → Type 0
@@ -40,12 +41,13 @@ module _ (e : State) where
 
   -- ---- an object changes, and does not end
 
-  object-stays : (s : State) (p : ℕ) (x : Object) → x.is_gone ≡ (s.object p).is_gone → (HasValue (s.object p) → HasValue x) → Q s
+  object-stays : (s : State) (p : ℕ) (x : Object) → x.is_gone ≡ (s.object p).is_gone → x.type ≡ (s.object p).type → (HasValue (s.object p) → HasValue x) → Q s
       → Q (record s { object = upd p x s.object })
-  object-stays s p x same has h = record {
+  object-stays s p x same typed has h = record {
     next = h.next;
     frame = h.frame;
     gone = λ o lt. by_test o (o == p) refl ∙ h.gone o lt;
+    type = λ o lt. by_type o (o == p) refl ∙ h.type o lt;
     valued = λ o lt v. value-at s p x has o (o == p) refl (h.valued o lt v);
   }
     where
@@ -55,30 +57,46 @@ module _ (e : State) where
           ap (λ (t : Bool). (if t then x else s.object o).is_gone) k ∙ same ∙ ap (λ (i : ℕ). (s.object i).is_gone) (sym at)
       by_test o false k = ap (λ (t : Bool). (if t then x else s.object o).is_gone) k
 
-  keeps-object_changed : (p : ℕ) (f : Object → Object) → ((x : Object) → (f x).is_gone ≡ x.is_gone) → ((x : Object) → HasValue x → HasValue (f x))
-      → Keeps Q (object_changed p f)
-  keeps-object_changed p f same has = record { by = λ s w h. record { by = object-stays s p (f (s.object p)) (same (s.object p)) (has (s.object p)) h } }
+      by_type : (o : ℕ) (b : Bool) → o == p ≡ b → (upd p x s.object o).type ≡ (s.object o).type
+      by_type o true k =
+          let at : o ≡ p = grind (arith, nat_tests, k) in
+          ap (λ (t : Bool). (if t then x else s.object o).type) k ∙ typed ∙ ap (λ (i : ℕ). (s.object i).type) (sym at)
+      by_type o false k = ap (λ (t : Bool). (if t then x else s.object o).type) k
+
+  keeps-object_changed : (p : ℕ) (f : Object → Object) → ((x : Object) → (f x).is_gone ≡ x.is_gone) → ((x : Object) → (f x).type ≡ x.type)
+      → ((x : Object) → HasValue x → HasValue (f x)) → Keeps Q (object_changed p f)
+  keeps-object_changed p f same typed has =
+      record { by = λ s w h. record { by = object-stays s p (f (s.object p)) (same (s.object p)) (typed (s.object p)) (has (s.object p)) h } }
 
   pub keeps-first_value : (p : Place) (v : Value) → Keeps Q (first_value p v)
-  keeps-first_value p v = keeps-object_changed p.object (hold p.route (Some v)) (λ x. refl) (hold-has p.route v)
+  keeps-first_value p v = keeps-object_changed p.object (hold p.route (Some v)) (λ x. refl) (λ x. refl) (hold-has p.route v)
 
   keeps-write : (classes : List Class) (p : Place) (v : Value) → Keeps Q (write_place classes p v)
   keeps-write classes p v =
       keeps-next Q (names_scalar classes p) _ (keeps-names Q classes p)
       (keeps-next Q (use_place classes p) _ (keeps-use Q classes p)
       (keeps-at Q _ (λ s. keeps-next Q (need (not (is_constant_place classes (s.object p.object) p.route)) 15) _ (keeps-need Q _ 15)
-      (keeps-object_changed p.object (hold p.route (Some v)) (λ x. refl) (hold-has p.route v)))))
+      (keeps-object_changed p.object (hold p.route (Some v)) (λ x. refl) (λ x. refl) (hold-has p.route v)))))
 
   keeps-zeros : (classes : List Class) (p : Place) → Keeps Q (fill_zeros classes p)
   keeps-zeros classes p =
       keeps-at Q _ (λ s. keeps-object_changed p.object
-      (hold_all p.route (λ r. Some (zero_of (type_at classes (s.object p.object).type (r ++ p.route))))) (λ x. refl)
+      (hold_all p.route (λ r. Some (zero_of (type_at classes (s.object p.object).type (r ++ p.route))))) (λ x. refl) (λ x. refl)
       (hold_all-has p.route (λ r. zero_of (type_at classes (s.object p.object).type (r ++ p.route)))))
 
   keeps-bytes : (p : Place) (i : ℕ) (b : List ℕ) → Keeps Q (write_bytes p i b)
   keeps-bytes p i [] = keeps-gives Q tt
   keeps-bytes p i (b ∷ rest) =
       keeps-next Q (first_value (inner (item i) p) (Number (converted Char (pos b)))) (write_bytes p (suc i) rest) (keeps-first_value _ _) (keeps-bytes p (suc i) rest)
+
+  keeps-first : (classes : List Class) (p : Place) (v : Value) → Keeps Q (state >>= (λ s. when (is_scalar (place_type classes s p)) (used v >>= first_value p) malformed))
+  keeps-first classes p v =
+      keeps-at Q _ (λ s. keeps-when Q (is_scalar (place_type classes s p)) (used v >>= first_value p) malformed
+      (keeps-then Q (used v) (first_value p) (keeps-used Q v) (keeps-first_value p)) (keeps-malformed Q))
+
+  keeps-settle : (classes : List Class) (p : Place) (v : Value) → Keeps Q (settle classes p v)
+  keeps-settle classes p Built = keeps-gives Q tt
+  keeps-settle classes p v = keeps-first classes p v
 
   -- ---- an object comes
 
@@ -87,6 +105,7 @@ module _ (e : State) where
     next = let n = h.next in omega (arith, n);
     frame = h.frame;
     gone = λ o lt. ap (λ (t : Bool). (if t then x else s.object o).is_gone) (older o lt) ∙ h.gone o lt;
+    type = λ o lt. ap (λ (t : Bool). (if t then x else s.object o).type) (older o lt) ∙ h.type o lt;
     valued = λ o lt v. subst HasValue (sym (ap (λ (t : Bool). if t then x else s.object o) (older o lt))) (h.valued o lt v);
   }
     where
@@ -94,7 +113,7 @@ module _ (e : State) where
       older o lt = let n = h.next in grind (arith, nat_tests, lt, n)
 
   literal-stays : (s : State) (ls : List Literal) → Q s → Q (record s { literals = ls })
-  literal-stays s ls h = record { next = h.next; frame = h.frame; gone = h.gone; valued = h.valued }
+  literal-stays s ls h = record { next = h.next; frame = h.frame; gone = h.gone; type = h.type; valued = h.valued }
 
   keeps-literal : (j : ℕ) (b : List ℕ) → Keeps Q (literal_object j b)
   keeps-literal j b =
@@ -119,6 +138,12 @@ module _ (e : State) where
     tested-of : (r : Register) (go : Bool → Value) → Keeps Q (held g r >>= truth_of >>= (λ b. gives (go b)))
     tested-of r go =
         keeps-then Q (held g r >>= truth_of) (λ b. gives (go b)) (keeps-then Q (held g r) truth_of (keeps-held Q g r) (keeps-truth Q)) (λ b. keeps-gives Q (go b))
+
+    -- a first value
+    pub first-stays : (r q : Register) → Keeps Q (acts (calls again) P g (plain.first r q))
+    first-stays r q =
+        keeps-then Q (place_in g r) _ (keeps-place_in Q g r)
+        (λ p. keeps-then Q (held g q) (λ x. doing (settle P.classes p x)) (keeps-held Q g q) (λ x. keeps-doing (settle P.classes p x) (keeps-settle P.classes p x)))
 
     pub quiet-stays : (a : Action) → is_quiet a ≡ true → Keeps Q (acts (calls again) P g a)
     quiet-stays (plain.text j b) h = keeps-then Q (literal_object j b) (λ o. gives (At (root o))) (keeps-literal j b) (λ o. keeps-gives Q (At (root o)))

@@ -1,9 +1,9 @@
 -- The point behind a statement that is no control, by what is open before it.
-use Rattle.std.specs.Prelude.{Bool, true, false, List, [], ◌∷◌, Some, None}
+use Rattle.std.specs.Prelude.{Bool, true, false, List, [], ◌∷◌, None}
 use Rattle.cf_plain.specs.Plain.{Plain, act, set, give}
 use Rattle.cf_plain_kept.specs.Kept as plain
 use Rattle.cf_lower.specs.Kept.{Keeping, Locals, after}
-use Rattle.cf_lower_kept.specs.Opened.{Opened, action_opens, opened_by, set_in}
+use Rattle.cf_lower_kept.specs.Opened.{Opened, action_opens, opened_by, set_by}
 use Rattle.cf_lower_bounds.specs.Points.{Standing, never, these, Point}
 
 -- whether the statement may stand where these are open, and registers hold this
@@ -15,7 +15,7 @@ leads_on g s xs = false
 
 abbrev pub standing_behind : plain.Keeping → Plain → List Opened → Standing
 standing_behind g (act a) xs = these (opened_by g None a xs)
-standing_behind g (set r a) xs = these (opened_by g (Some r) a (set_in r xs))
+standing_behind g (set r a) xs = these (set_by g r a xs)
 standing_behind g s xs = never
 
 -- the point behind a leaf, where registers hold this before it
