@@ -200,10 +200,10 @@ module _ (z : Scene) (n : ℕ) where
       where
         one : LeafRunsTo z n inner (point_at k zs) (act (declare i t)) (point_at k (fresh i ∷ zs))
         one =
-            subst (λ us. LeafRunsTo z n inner (point_at k zs) (act (declare i t)) (point_at k us)) (if-false (is_listed i zs) (map (declared_in i None) zs) (fresh i ∷ zs) new)
-            (subst (λ b. LeafRunsTo z n inner (point_at k zs) (act (declare i t)) (point_of k (only_if (not b) (falls (declared_among i None zs))))) (open-listed i zs new)
+            subst (λ us. LeafRunsTo z n inner (point_at k zs) (act (declare i t)) (point_at k us)) (if-false (is_listed i zs) (map (declared_in i None t) zs) (fresh i ∷ zs) new)
+            (subst (λ b. LeafRunsTo z n inner (point_at k zs) (act (declare i t)) (point_of k (only_if (not b) (falls (declared_among i None t zs))))) (open-listed i zs new)
             (leads inner plain.nothing_set k no_ways zs (λ q. tt) (act (declare i t)) fit
-            (subst (λ b. is_right (only_if (not b) (falls (declared_among i None zs))) ≡ true) (sym (open-listed i zs new)) refl)))
+            (subst (λ b. is_right (only_if (not b) (falls (declared_among i None t zs))) ≡ true) (sym (open-listed i zs new)) refl)))
 
         by : (b : Bool) → LeadsIf inner k (declare i t) (if b then Some zs else None) (if b then Some (fresh i ∷ zs) else None)
         by true = one

@@ -1,15 +1,15 @@
 -- Lists of the locals that are open: what is still so of them at the turns of loops and behind labels, where two ways part by a number, and where they join.
 use Rattle.std.proofs.Common.{◌≡◌, ℕ, ◌<◌, Bool, true, false, ◌&&◌, ◌||◌, not, ◌==◌, if◌then◌else◌, List, [], ◌∷◌, refl, sym, ◌∙◌, ap, subst}
-use Rattle.std.specs.Prelude.{map, ℤ, Option, Some, None}
-use Rattle.cf_base.proofs.Tests.{both}
+use Rattle.std.specs.Prelude.{map, ℤ, Option, Some, None, bytes_eq}
+use Rattle.cf_base.proofs.Tests.{both, same_bytes}
 use Rattle.cf_core.specs.Store as source
 use Rattle.cf_core.specs.Run.{State}
 use Rattle.cf_plain.specs.Plain.{Register}
 use Rattle.cf_plain.specs.Acts.{Registers}
-use Rattle.cf_lower_kept.specs.Opened.{Opened, is_over, is_open_one, is_open, is_listed, is_register, settled, flag_number, is_unknown, goes_by, stands_by, where_set, where_unset, awaited, same_locals, same_begun, same_stand, both_one, both_opened, as_open, same_open}
+use Rattle.cf_lower_kept.specs.Opened.{Opened, Counts, no_places, same_places, is_over, is_open_one, is_open, is_listed, is_register, settled, flag_number, is_unknown, goes_by, stands_by, where_set, where_unset, awaited, same_locals, same_begun, same_stand, both_one, both_opened, as_open, same_open}
 use Rattle.cf_lower_kept.proofs.Types.{same-number}
 use Rattle.cf_lower_bounds.specs.Needs.{is_nonzero}
-use Rattle.cf_lower_bounds.specs.Points.{Stands, Begun, Valued, IsOver, IsTold, IsOpen, AllOpen, Open}
+use Rattle.cf_lower_bounds.specs.Points.{Stands, Begun, Valued, Parts, IsOver, IsTold, IsOpen, AllOpen, Open}
 use Rattle.cf_lower_bounds.proofs.Lists.{neither, none-of, open-listed}
 
 -- ---- what is settled
@@ -19,7 +19,7 @@ is_open-settled i [] = refl
 is_open-settled i (x ∷ xs) = ap (λ b. is_open_one i x || b) (is_open-settled i xs)
 
 abbrev settled_at : ℕ → Option Bool → Opened
-settled_at i o = record { local = i; begun = None; has_value = false; stands = o; flag = None; is_told = false }
+settled_at i o = record { local = i; begun = None; has_value = false; stands = o; flag = None; is_told = false; places = no_places; last = None }
 
 as-open-is : (a b : Option Bool) → as_open a b ≡ true → a ≡ b
 as-open-is (Some true) (Some true) e = refl
@@ -77,6 +77,8 @@ module _ (count : ℕ) (g : Registers) (s : State) where
           begun = λ r e. absurd (let k = e in cc);
           value = λ e. absurd (let k = e in cc);
           flag = λ e. absurd (let k = e in cc);
+          parts = λ r. tt;
+          last = λ r n e. absurd (let k = e in cc);
         },
         all-settled xs h.1,
       )
@@ -97,7 +99,7 @@ module _ (count : ℕ) (g : Registers) (s : State) where
   open-awaited r (Some i) xs h = by (is_listed i xs) refl
     where
       by : (b : Bool) → is_listed i xs ≡ b
-          → Open count (if b then xs else record { local = i; begun = None; has_value = false; stands = Some false; flag = Some r; is_told = false } ∷ xs) g s
+          → Open count (if b then xs else record { local = i; begun = None; has_value = false; stands = Some false; flag = Some r; is_told = false; places = no_places; last = None } ∷ xs) g s
       by true e = h
       by false e = record {
         each = (
@@ -109,6 +111,8 @@ module _ (count : ℕ) (g : Registers) (s : State) where
             begun = λ q k. absurd (let j = k in cc);
             value = λ k. absurd (let j = k in cc);
             flag = λ k. absurd (let j = k in cc);
+            parts = λ q. tt;
+            last = λ q n k. absurd (let j = k in cc);
           },
           h.each,
         );
@@ -144,6 +148,8 @@ module _ (count : ℕ) (g : Registers) (s : State) (r : Register) (n : ℤ) (hol
               begun = h.begun;
               value = h.value;
               flag = λ k. absurd (let j = k in cc);
+              parts = h.parts;
+              last = h.last;
             }
 
     all-set : (xs : List Opened) → AllOpen count xs g s → AllOpen count (where_set r xs) g s
@@ -265,6 +271,20 @@ closed-right i (x ∷ xs) (y ∷ ys) e k =
     (closed-right i xs ys two.1 none.1)
 
 module _ (count : ℕ) (g : Registers) (s : State) where
+  parts-left : (i : ℕ) (r : Register) (ns ms : Counts) → Parts count i r ns g s → Parts count i r (if bytes_eq ns ms then ns else []) g s
+  parts-left i r ns ms h = by_test (bytes_eq ns ms)
+    where
+      by_test : (b : Bool) → Parts count i r (if b then ns else []) g s
+      by_test true = h
+      by_test false = tt
+
+  parts-right : (i : ℕ) (r : Register) (ns ms : Counts) → Parts count i r ms g s → Parts count i r (if bytes_eq ns ms then ns else []) g s
+  parts-right i r ns ms h = by_test (bytes_eq ns ms) refl
+    where
+      by_test : (b : Bool) → bytes_eq ns ms ≡ b → Parts count i r (if b then ns else []) g s
+      by_test true e = subst (λ ks. Parts count i r ks g s) (sym (same_bytes ns ms e)) h
+      by_test false e = tt
+
   all-left : (xs ys : List Opened) → same_locals xs ys ≡ true → AllOpen count xs g s → AllOpen count (both_opened xs ys) g s
   all-left [] [] e h = tt
   all-left [] (y ∷ ys) e h = absurd (let k = e in cc)
@@ -280,6 +300,8 @@ module _ (count : ℕ) (g : Registers) (s : State) where
           begun = λ r k. one.begun r (begun-left x.begun y.begun r k);
           value = λ v. one.value (both x.has_value y.has_value v).0;
           flag = λ t r k. one.flag (both x.is_told y.is_told t).0 r (begun-left x.flag y.flag r k);
+          parts = λ r. parts-left x.local r (x.places r) (y.places r) (one.parts r);
+          last = λ r n k. absurd (let j = k in cc);
         },
         all-left xs ys two.1 h.1,
       )
@@ -300,6 +322,8 @@ module _ (count : ℕ) (g : Registers) (s : State) where
           begun = λ r k. subst (λ i. Begun count i r g s) same (one.begun r (begun-right x.begun y.begun r k));
           value = λ v. subst (λ i. Valued count i s) same (one.value (both x.has_value y.has_value v).1);
           flag = λ t r k. one.flag (both x.is_told y.is_told t).1 r (begun-right x.flag y.flag r k);
+          parts = λ r. subst (λ i. Parts count i r (same_places x.places y.places r) g s) same (parts-right y.local r (x.places r) (y.places r) (one.parts r));
+          last = λ r n k. absurd (let j = k in cc);
         },
         all-right xs ys two.1 h.1,
       )

@@ -8,7 +8,7 @@ use Rattle.cf_plain.specs.Plain as plain
 use Rattle.cf_plain.specs.Plain.{Plain, Plains, act, set, give, nothing, more}
 use Rattle.cf_plain_kept.specs.Kept as told
 use Rattle.cf_lower.specs.Kept.{Keeping, Locals, nothing_kept, after}
-use Rattle.cf_lower_kept.specs.Opened.{Opened, opened_by, set_by, keeping_or}
+use Rattle.cf_lower_kept.specs.Opened.{Opened, keeping_or}
 use Rattle.cf_lower_kept.specs.Told.{AllTold}
 use Rattle.cf_lower_kept.proofs.Statements.{statement-told}
 use Rattle.cf_lower_turns.specs.Around.{Around, function}
@@ -16,7 +16,7 @@ use Rattle.cf_lower_turns.specs.Scene.{Scene}
 use Rattle.cf_lower_actions.specs.Fits.{Fits}
 use Rattle.cf_lower_bounds.specs.Points.{Point, point_at, point_never}
 use Rattle.cf_lower_bounds.specs.Bounds.{LeafRunsTo, NeededTo}
-use Rattle.cf_lower_points.specs.Leading.{point_behind}
+use Rattle.cf_lower_points.specs.Leading.{opened_behind, point_behind}
 use Rattle.cf_lower_points.proofs.Alike.{leads-on}
 
 abbrev one_local : Locals
@@ -107,27 +107,21 @@ module _ (z : Scene) (fits : Fits (small_scene z)) (n : ℕ) where
   tells5 : AllTold one_local g5 h5
   tells5 = statement-told one_local (integer Int) fifth_statement g4 h4 tells4 refl
 
-  -- what is open behind a statement
-  abbrev opened : told.Keeping → Plain → List Opened → List Opened
-  opened g (act a) xs = opened_by g None a xs
-  opened g (set r a) xs = set_by g r a xs
-  opened g st xs = xs
-
   -- the local as it is declared, and once it has its value
   abbrev x1 : List Opened
-  x1 = opened told.nothing_set first_statement []
+  x1 = opened_behind told.nothing_set first_statement []
 
   abbrev x2 : List Opened
-  x2 = opened g1 second_statement x1
+  x2 = opened_behind g1 second_statement x1
 
   abbrev x3 : List Opened
-  x3 = opened g2 third_statement x2
+  x3 = opened_behind g2 third_statement x2
 
   abbrev x4 : List Opened
-  x4 = opened g3 fourth_statement x3
+  x4 = opened_behind g3 fourth_statement x3
 
   abbrev x5 : List Opened
-  x5 = opened g4 fifth_statement x4
+  x5 = opened_behind g4 fifth_statement x4
 
   one : Leads told.nothing_set nothing_kept first_statement []
   one = leads-on (small_scene z) fits here told.nothing_set nothing_kept [] (λ r. tt) first_statement refl refl n

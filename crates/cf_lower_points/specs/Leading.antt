@@ -13,6 +13,12 @@ leads_on g (set r a) xs = action_opens g a xs
 leads_on g (give r) [] = true
 leads_on g s xs = false
 
+-- what is open behind a statement that falls through
+abbrev pub opened_behind : plain.Keeping → Plain → List Opened → List Opened
+opened_behind g (act a) xs = opened_by g None a xs
+opened_behind g (set r a) xs = set_by g r a xs
+opened_behind g s xs = xs
+
 abbrev pub standing_behind : plain.Keeping → Plain → List Opened → Standing
 standing_behind g (act a) xs = these (opened_by g None a xs)
 standing_behind g (set r a) xs = these (set_by g r a xs)

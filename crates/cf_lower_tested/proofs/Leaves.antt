@@ -12,7 +12,7 @@ use Rattle.cf_plain.specs.Plain.{Register, Action, Plain, act, set, give}
 use Rattle.cf_plain_frames.specs.Simple.{functions_simple}
 use Rattle.cf_plain_kept.specs.Kept as told
 use Rattle.cf_lower.specs.Kept.{Keeping, after}
-use Rattle.cf_lower_kept.specs.Opened.{Opened, Where, falls, Ways, only_if, differ, has_its_value, action_opens, opened_by, set_in, opens}
+use Rattle.cf_lower_kept.specs.Opened.{Opened, Where, falls, Ways, only_if, differ, has_its_value, action_opens, opened_by, set_in, set_by, opens}
 use Rattle.cf_lower_kept.specs.Told.{AllTold}
 use Rattle.cf_lower_turns.specs.Around.{Around}
 use Rattle.cf_lower_turns.specs.Scene.{Scene}
@@ -48,11 +48,11 @@ module _ (z : Scene) (fit : Fits z) (none : z.program.classes ≡ []) (simple : 
         subst (λ b. Leads (act a) (only_if b (falls (opened_by g None a xs)))) (sym tested) (leads-on z fit around g h xs tells (act a) e tested n)
 
     set-leads : (r : Register) (a : Action) → is_leaf z h (set r a) ≡ true
-        → is_right (only_if (action_opens g a xs) (falls (opened_by g (Some r) a (set_in r xs)))) ≡ true
-        → Leads (set r a) (only_if (action_opens g a xs) (falls (opened_by g (Some r) a (set_in r xs))))
+        → is_right (only_if (action_opens g a xs) (falls (set_by g r a xs))) ≡ true
+        → Leads (set r a) (only_if (action_opens g a xs) (falls (set_by g r a xs)))
     set-leads r a e right =
-        let tested = only-if (action_opens g a xs) (falls (opened_by g (Some r) a (set_in r xs))) right in
-        subst (λ b. Leads (set r a) (only_if b (falls (opened_by g (Some r) a (set_in r xs))))) (sym tested)
+        let tested = only-if (action_opens g a xs) (falls (set_by g r a xs)) right in
+        subst (λ b. Leads (set r a) (only_if b (falls (set_by g r a xs)))) (sym tested)
         (leads-on z fit around g h xs tells (set r a) e tested n)
 
     give-leads : (r : Option Register) (ys : List Opened) → xs ≡ ys → is_leaf z h (give r) ≡ true → is_right (opens z.inside.locals.types z.inside.result (give r) g w ys) ≡ true

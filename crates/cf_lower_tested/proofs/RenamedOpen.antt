@@ -8,7 +8,7 @@ use Rattle.cf_plain.specs.Joined.{renamed_action, renamed, renamed_all}
 use Rattle.cf_plain.specs.Running.{has_case}
 use Rattle.cf_plain.specs.Valid.{has_default, labels_differ}
 use Rattle.cf_plain_kept.specs.Kept.{Keeping, nothing_set, after}
-use Rattle.cf_lower_kept.specs.Opened.{Opened, open_one, is_listed, settled, where_set, where_unset, ended_in, or_behind, ended_by, awaited, prepared, action_opens, opened_by, Where, falls, away, wrong, joined, comes_to, only_if, set_in, keeping_or, Ways, no_label, is_the_label, declared, declared_at, stands_before, opens, all_open, from_label}
+use Rattle.cf_lower_kept.specs.Opened.{Opened, open_one, is_listed, settled, where_set, where_unset, ended_in, or_behind, ended_by, awaited, prepared, action_opens, opened_by, Where, falls, away, wrong, joined, comes_to, only_if, set_by, keeping_or, Ways, no_label, is_the_label, declared, declared_at, stands_before, opens, all_open, from_label}
 use Rattle.cf_lower_needed.proofs.Labels.{choose, if-true, alone-or}
 use Rattle.cf_lower_needed.proofs.Places.{stands_alone, ways_behind, then_open, next-open}
 use Rattle.cf_lower_tested.proofs.RenamedTold.{after-same}
@@ -91,6 +91,10 @@ module _ (r : Name → Name) where
   opened-by-same g q (call f t object is into) xs = refl
   opened-by-same g q a xs = refl
 
+  set-by-same : (g : Keeping) (q : Register) (a : Action) (xs : List Opened) → set_by g q (renamed_action r a) xs ≡ set_by g q a xs
+  set-by-same g q (call f t object is into) xs = refl
+  set-by-same g q a xs = refl
+
   module _ (T : List SourceType) (R : SourceType) where
     -- a switch and the one that it declares for
     both-is : (q p : Register) (ss ts rest : Plains) (g : Keeping) (w : Ways) (xs : List Opened) → (q == p) && stands_before ss ts ≡ true
@@ -140,8 +144,8 @@ module _ (r : Name → Name) where
           ap (λ b. only_if b (falls (opened_by g None (renamed_action r a) xs))) (action-opens-same g a xs)
           ∙ ap (λ ys. only_if (action_opens g a xs) (falls ys)) (opened-by-same g None a xs)
       opens-same (set q a) g w xs =
-          ap (λ b. only_if b (falls (opened_by g (Some q) (renamed_action r a) (set_in q xs)))) (action-opens-same g a xs)
-          ∙ ap (λ ys. only_if (action_opens g a xs) (falls ys)) (opened-by-same g (Some q) a (set_in q xs))
+          ap (λ b. only_if b (falls (set_by g q (renamed_action r a) xs))) (action-opens-same g a xs)
+          ∙ ap (λ ys. only_if (action_opens g a xs) (falls ys)) (set-by-same g q a xs)
       opens-same (branch q ss ts) g w xs =
           ap (λ o. joined o (all_open T R (renamed_all r ts) g w (where_unset q xs))) (all-open-same ss g w (where_set q xs))
           ∙ ap (λ o. joined (all_open T R ss g w (where_set q xs)) o) (all-open-same ts g w (where_unset q xs))

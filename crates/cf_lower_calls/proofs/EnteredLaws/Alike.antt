@@ -143,6 +143,8 @@ module _ (B : Programs) (none : B.program.classes ≡ []) (simple : functions_si
         begun = λ r e. absurd (let k = e in cc);
         value = λ e. record { one = one; value = entry.valued at.object among };
         flag = λ e. absurd (let k = e in cc);
+        parts = λ r. tt;
+        last = λ r n e. absurd (let k = e in cc);
       }
 
   frame-first : InFrame z s1

@@ -27,6 +27,7 @@ use Rattle.cf_lower_turns.specs.Around.{Around, function}
 use Rattle.cf_lower_turns.specs.Scene.{Scene}
 use Rattle.cf_lower_calls.specs.Invoked.LowerActions.{Fits}
 use Rattle.cf_lower_bounds.specs.Points.{Point, point_at, point_never}
+use Rattle.cf_lower_calls.specs.Invoked.LowerPoints.{opened_behind}
 use Rattle.cf_lower_calls.proofs.InvokedLaws.LowerPoints.{leads-on}
 use Rattle.cf_lower_calls.specs.Returns.Called.{Entry, FunctionsAlike}
 use Rattle.cf_lower_calls.specs.Invoked.Invoking.{Invokes, HasLocal, KeepsResult}
@@ -46,8 +47,9 @@ use Rattle.cf_lower_calls.proofs.EnteredLaws.Example.{int, g_name, f_name, k_nam
 abbrev around : Around Point
 around = function
 
-abbrev valued : Opened
-valued = open_one 0 None true
+-- the parameter has its value
+abbrev valued : List Opened
+valued = open_one 0 None true ∷ []
 
 module _ (n : ℕ) (alike : (i : ℕ) → i ≤ n → FunctionsAlike B i) (E : Map) (s : State) (first : Memory) (os : List ℕ) (cs : List Value) (depth : ℕ) where
   module _ (entry : Entry B (header g) E s first os cs) where
@@ -66,21 +68,27 @@ module _ (n : ℕ) (alike : (i : ℕ) → i ≤ n → FunctionsAlike B i) (E : M
     abbrev hg2 : Keeping
     hg2 = after lg (set 0 (plain.read 0)) hg1
 
+    abbrev v1 : List Opened
+    v1 = opened_behind told.nothing_set (set 0 (plain.local 0)) valued
+
+    abbrev v2 : List Opened
+    v2 = opened_behind told.nothing_set (set 0 (plain.read 0)) v1
+
     g-needs : HasNeeds B n g E first cs depth
     g-needs = record {
       last = hg2;
       needs = record {
-        point = point_at hg1 (valued ∷ []);
+        point = point_at hg1 v1;
         kept_there = refl;
-        first = leads-on zg g-fits around told.nothing_set nothing_kept (valued ∷ []) (λ r. tt) (set 0 (plain.local 0)) refl refl n;
+        first = leads-on zg g-fits around told.nothing_set nothing_kept valued (λ r. tt) (set 0 (plain.local 0)) refl refl n;
         second = record {
-          point = point_at hg2 (valued ∷ []);
+          point = point_at hg2 v2;
           kept_there = refl;
-          first = leads-on zg g-fits around told.nothing_set hg1 (valued ∷ []) (λ r. tt) (set 0 (plain.read 0)) refl refl n;
+          first = leads-on zg g-fits around told.nothing_set hg1 v1 (λ r. tt) (set 0 (plain.read 0)) refl refl n;
           second = record {
             point = point_at hg2 [];
             kept_there = refl;
-            first = leads-on zg g-fits around told.nothing_set hg2 (valued ∷ []) (λ r. tt) (act (plain.finish int 0)) refl refl n;
+            first = leads-on zg g-fits around told.nothing_set hg2 v2 (λ r. tt) (act (plain.finish int 0)) refl refl n;
             second = record {
               point = point_never hg2;
               kept_there = refl;
@@ -138,11 +146,15 @@ module _ (n : ℕ) (alike : (i : ℕ) → i ≤ n → FunctionsAlike B i) (E : M
     tells2 : AllTold lf k2 h2
     tells2 = statement-told lf int s2 k1 h1 tells1 refl
 
-    abbrev begun : Opened
-    begun = open_one 0 (Some 0) false
+    -- the argument as it is declared, with a number in another register, and once it has its value
+    abbrev y1 : List Opened
+    y1 = opened_behind told.nothing_set s1 []
 
-    abbrev passed : Opened
-    passed = open_one 0 (Some 0) true
+    abbrev y2 : List Opened
+    y2 = opened_behind k1 s2 y1
+
+    abbrev y3 : List Opened
+    y3 = opened_behind k2 (act (plain.first 0 1)) y2
 
     some-sort : {a b : Sort} → Some a ≡ Some b → a ≡ b
     some-sort e = cc
@@ -160,22 +172,22 @@ module _ (n : ℕ) (alike : (i : ℕ) → i ≤ n → FunctionsAlike B i) (E : M
     f-needs = record {
       last = h4;
       needs = record {
-        point = point_at h1 (begun ∷ []);
+        point = point_at h1 y1;
         kept_there = refl;
         first = leads-on zf f-fits around told.nothing_set nothing_kept [] (λ r. tt) s1 refl refl n;
         second = record {
-          point = point_at h2 (begun ∷ []);
+          point = point_at h2 y2;
           kept_there = refl;
-          first = leads-on zf f-fits around k1 h1 (begun ∷ []) tells1 s2 refl refl n;
+          first = leads-on zf f-fits around k1 h1 y1 tells1 s2 refl refl n;
           second = record {
-            point = point_at h2 (passed ∷ []);
+            point = point_at h2 y3;
             kept_there = refl;
-            first = leads-on zf f-fits around k2 h2 (begun ∷ []) tells2 (act (plain.first 0 1)) refl refl n;
+            first = leads-on zf f-fits around k2 h2 y2 tells2 (act (plain.first 0 1)) refl refl n;
             second = record {
               point = point_at h4 [];
               kept_there = refl;
               first =
-                  call-kept-leads zf refl refl n alike around h2 (passed ∷ []) (header g) (linked_function [] g) g-pair (0 ∷ []) of_int 0
+                  call-kept-leads zf refl refl n alike around h2 y3 (header g) (linked_function [] g) g-pair (0 ∷ []) of_int 0
                   (λ same. (invokes, keeps)) refl;
               second = record {
                 point = point_never h4;
@@ -270,17 +282,35 @@ module _ (n : ℕ) (alike : (i : ℕ) → i ≤ n → FunctionsAlike B i) (E : M
     k-tells8 : AllTold lk t8 p8
     k-tells8 = statement-told lk int u8 t7 p7 k-tells7 refl
 
-    abbrev begun1 : Opened
-    begun1 = open_one 1 (Some 0) false
+    abbrev w1 : List Opened
+    w1 = opened_behind told.nothing_set u1 valued
 
-    abbrev passed1 : Opened
-    passed1 = open_one 1 (Some 0) true
+    abbrev w2 : List Opened
+    w2 = opened_behind t1 u2 w1
 
-    abbrev begun2 : Opened
-    begun2 = open_one 2 (Some 1) false
+    abbrev w3 : List Opened
+    w3 = opened_behind t2 (act (plain.first 0 1)) w2
 
-    abbrev passed2 : Opened
-    passed2 = open_one 2 (Some 1) true
+    abbrev w4 : List Opened
+    w4 = opened_behind told.nothing_set k_put w3
+
+    abbrev w5 : List Opened
+    w5 = opened_behind told.nothing_set u5 w4
+
+    abbrev w6 : List Opened
+    w6 = opened_behind told.nothing_set u6 w5
+
+    abbrev w7 : List Opened
+    w7 = opened_behind told.nothing_set u7 w6
+
+    abbrev w8 : List Opened
+    w8 = opened_behind t7 u8 w7
+
+    abbrev w9 : List Opened
+    w9 = opened_behind t8 (act (plain.first 1 2)) w8
+
+    abbrev w10 : List Opened
+    w10 = opened_behind told.nothing_set k_call w9
 
     int-local : HasLocal zk ty.Int
     int-local = record { block = (born_arguments cs first).next + (results_from k + 0); is = refl }
@@ -320,7 +350,7 @@ module _ (n : ℕ) (alike : (i : ℕ) → i ≤ n → FunctionsAlike B i) (E : M
         by false false true i o = absurd (let y : takes (pointer of_int) (gives int false) ≡ of_int = with-type k o in cc)
         by false false false i o = absurd (let y = o in cc)
 
-    points : PointerFits zk p8 0 of_int (2 ∷ []) (passed2 ∷ valued ∷ []) 0
+    points : PointerFits zk p8 0 of_int (2 ∷ []) w9 0
     points = record {
       helper = refl;
       kept = refl;
@@ -343,51 +373,51 @@ module _ (n : ℕ) (alike : (i : ℕ) → i ≤ n → FunctionsAlike B i) (E : M
     k-needs = record {
       last = p10;
       needs = record {
-        point = point_at p1 (begun1 ∷ valued ∷ []);
+        point = point_at p1 w1;
         kept_there = refl;
-        first = leads-on zk k-fits around told.nothing_set nothing_kept (valued ∷ []) (λ r. tt) u1 refl refl n;
+        first = leads-on zk k-fits around told.nothing_set nothing_kept valued (λ r. tt) u1 refl refl n;
         second = record {
-          point = point_at p2 (begun1 ∷ valued ∷ []);
+          point = point_at p2 w2;
           kept_there = refl;
-          first = leads-on zk k-fits around t1 p1 (begun1 ∷ valued ∷ []) k-tells1 u2 refl refl n;
+          first = leads-on zk k-fits around t1 p1 w1 k-tells1 u2 refl refl n;
           second = record {
-            point = point_at p2 (passed1 ∷ valued ∷ []);
+            point = point_at p2 w3;
             kept_there = refl;
-            first = leads-on zk k-fits around t2 p2 (begun1 ∷ valued ∷ []) k-tells2 (act (plain.first 0 1)) refl refl n;
+            first = leads-on zk k-fits around t2 p2 w2 k-tells2 (act (plain.first 0 1)) refl refl n;
             second = record {
-              point = point_at p4 (valued ∷ []);
+              point = point_at p4 w4;
               kept_there = refl;
               first =
-                  putchar-leads zk k-fits n around p2 (passed1 ∷ valued ∷ []) of_int 0 int-kept 1
+                  putchar-leads zk k-fits n around p2 w3 of_int 0 int-kept 1
                   (record { passed = refl; shaped = k-fits.shaped; valued = refl });
               second = record {
-                point = point_at p5 (valued ∷ []);
+                point = point_at p5 w5;
                 kept_there = refl;
-                first = leads-on zk k-fits around told.nothing_set p4 (valued ∷ []) (λ r. tt) u5 refl refl n;
+                first = leads-on zk k-fits around told.nothing_set p4 w4 (λ r. tt) u5 refl refl n;
                 second = record {
-                  point = point_at p6 (valued ∷ []);
+                  point = point_at p6 w6;
                   kept_there = refl;
-                  first = leads-on zk k-fits around told.nothing_set p5 (valued ∷ []) (λ r. tt) u6 refl refl n;
+                  first = leads-on zk k-fits around told.nothing_set p5 w5 (λ r. tt) u6 refl refl n;
                   second = record {
-                    point = point_at p7 (begun2 ∷ valued ∷ []);
+                    point = point_at p7 w7;
                     kept_there = refl;
-                    first = leads-on zk k-fits around told.nothing_set p6 (valued ∷ []) (λ r. tt) u7 refl refl n;
+                    first = leads-on zk k-fits around told.nothing_set p6 w6 (λ r. tt) u7 refl refl n;
                     second = record {
-                      point = point_at p8 (begun2 ∷ valued ∷ []);
+                      point = point_at p8 w8;
                       kept_there = refl;
-                      first = leads-on zk k-fits around t7 p7 (begun2 ∷ valued ∷ []) k-tells7 u8 refl refl n;
+                      first = leads-on zk k-fits around t7 p7 w7 k-tells7 u8 refl refl n;
                       second = record {
-                        point = point_at p8 (passed2 ∷ valued ∷ []);
+                        point = point_at p8 w9;
                         kept_there = refl;
-                        first = leads-on zk k-fits around t8 p8 (begun2 ∷ valued ∷ []) k-tells8 (act (plain.first 1 2)) refl refl n;
+                        first = leads-on zk k-fits around t8 p8 w8 k-tells8 (act (plain.first 1 2)) refl refl n;
                         second = record {
-                          point = point_at p10 (valued ∷ []);
+                          point = point_at p10 w10;
                           kept_there = refl;
-                          first = pointer-leads zk refl refl k-fits n alike around p8 (passed2 ∷ valued ∷ []) 0 of_int (2 ∷ []) 0 points refl;
+                          first = pointer-leads zk refl refl k-fits n alike around p8 w9 0 of_int (2 ∷ []) 0 points refl;
                           second = record {
                             point = point_at p10 [];
                             kept_there = refl;
-                            first = leads-on zk k-fits around told.nothing_set p10 (valued ∷ []) (λ r. tt) k_end refl refl n;
+                            first = leads-on zk k-fits around told.nothing_set p10 w10 (λ r. tt) k_end refl refl n;
                             second = record {
                               point = point_never p10;
                               kept_there = refl;

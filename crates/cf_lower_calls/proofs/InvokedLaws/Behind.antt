@@ -26,6 +26,7 @@ use Rattle.cf_lower_calls.specs.Invoked.Invoking.{programs_of, Invokes, InvokedB
 use Rattle.cf_lower_calls.proofs.InvokedLaws.Arguments.{one-of, object-among, passed-below}
 use Rattle.cf_lower_calls.proofs.InvokedLaws.Closing.{OthersOpen, all-closed, was-closed}
 use Rattle.cf_lower_calls.proofs.InvokedLaws.Entry.{values, entry-map, apart-from-first}
+use Rattle.cf_lower_calls.proofs.InvokedLaws.LowerPoints.{GoesOn, parts-again}
 
 -- what stands is shown, if it is not hidden
 stands-shown : (st : Stage) → is_hidden st ≡ false → is_ended st ≡ false → is_shown st ≡ true
@@ -102,6 +103,17 @@ module _ (z : Scene) (d : ℕ) (h : Keeping) (f : Function) (is : List ℕ) (nee
         let same : a.local ≡ j = alone j a.local k.object k.below lj k.there a.there.local k.stands in
         absurd (true-false (subst (λ i. is_among i is ≡ true) same a.among) fresh)
 
+    -- objects keep their types
+    type-behind : (o : ℕ) → o < s.next → (x.object o).type ≡ (s.object o).type
+    type-behind o lt =
+        let em = entry-map z d h f is needs g s u here os before in
+        let a = em.count in
+        let b = here.between.rel.count in
+        let old : o < here.map.count = omega (arith, b, lt) in
+        let known : o < E.count = omega (arith, a, old) in
+        let more : o < back.map.count = (let c = back.grows.count in omega (arith, c, known)) in
+        back.rel.type o more ∙ back.grows.type o known ∙ em.grows.type o old ∙ sym (here.between.rel.type o old)
+
     abbrev stands-behind : (j : ℕ) → is_among j is ≡ false → Stands (local_count z) j s → Stands (local_count z) j behind
     stands-behind j fresh k = record {
       below = k.below;
@@ -109,6 +121,10 @@ module _ (z : Scene) (d : ℕ) (h : Keeping) (f : Function) (is : List ℕ) (nee
       there = k.there;
       stands = since.kept k.object (bounded j k.object k.below k.there) (apart j fresh k (is_among k.object os) refl) ∙ k.stands;
     }
+
+    goes-behind : (j : ℕ) → is_among j is ≡ false → GoesOn (local_count z) j s behind
+    goes-behind j fresh k =
+        ((stands-behind j fresh k).there, ((stands-behind j fresh k).stands, type-behind k.object (bounded j k.object k.below k.there)))
 
     module _ (r : Registers) where
       others : (ys : List Opened) → AllOpen (local_count z) ys r s → OthersOpen (local_count z) r behind is ys
@@ -129,6 +145,8 @@ module _ (z : Scene) (d : ℕ) (h : Keeping) (f : Function) (is : List ℕ) (nee
                   value = since.valued v.one.object (bounded y.local v.one.object v.one.below v.one.there) v.value;
                 };
             flag = k.0.flag;
+            parts = λ q. parts-again (local_count z) y.local q (y.places q) r r s behind (goes-behind y.local fresh) refl (k.0.parts q);
+            last = k.0.last;
           }
 
       pub open-behind : (ys : List Opened) → Open (local_count z) ys r s → Open (local_count z) (closed_all is ys) r behind

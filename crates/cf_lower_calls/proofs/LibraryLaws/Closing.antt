@@ -60,6 +60,6 @@ closed-set i r [] = refl
 closed-set i r (x ∷ xs) = by_test (closed-set i r xs) (x.local == i)
   where
     by_test : closed i (set_in r xs) ≡ set_in r (closed i xs) → (b : Bool)
-        → (if not b then overwritten r x ∷ closed i (set_in r xs) else closed i (set_in r xs)) ≡ set_in r (if not b then x ∷ closed i xs else closed i xs)
+        → (if not b then overwritten r [] x ∷ closed i (set_in r xs) else closed i (set_in r xs)) ≡ set_in r (if not b then x ∷ closed i xs else closed i xs)
     by_test rest true = rest
-    by_test rest false = ap (λ (l : List Opened). overwritten r x ∷ l) rest
+    by_test rest false = ap (λ (l : List Opened). overwritten r [] x ∷ l) rest
