@@ -71,10 +71,10 @@ leads-so cs t (within s ∷ π) h = absurd (let k = (both (leads [] t π) false 
 pub leads-anyway : (cs : List Class) (t : SourceType) (π : Route) → leads [] t π ≡ true → leads cs t π ≡ true
 leads-anyway cs t π h = (leads-so cs t π h).there
 
-same-head : {a b : ℕ} {as bs : Counts} → a ∷ as ≡ b ∷ bs → a ≡ b
+same-head : {a b : ℕ} {ns ms : Counts} → a ∷ ns ≡ b ∷ ms → a ≡ b
 same-head e = cc
 
-same-tail : {a b : ℕ} {as bs : Counts} → a ∷ as ≡ b ∷ bs → as ≡ bs
+same-tail : {a b : ℕ} {ns ms : Counts} → a ∷ ns ≡ b ∷ ms → ns ≡ ms
 same-tail e = cc
 
 below-too : {k m n : ℕ} → n ≡ m → k < m → nat_lt k n ≡ true

@@ -6,11 +6,11 @@ use Rattle.cf_base.proofs.Tests.{both}
 use Rattle.cf_core.specs.Types.{SourceType, parameters, result as result_type}
 use Rattle.cf_core.specs.Classes.{Class}
 use Rattle.cf_core.specs.Core.{Role, constructor}
-use Rattle.cf_plain.specs.Plain.{Register, Action, declare, first, zeros, bytes, finish, call, pointer_call, number, Plain, Plains, act, set, branch, loop, switch, case_label, default_label, leave, continue, give, parts, nothing, more, PlainFunction, PlainFile}
+use Rattle.cf_plain.specs.Plain.{Register, Action, decay, index, declare, first, zeros, bytes, finish, call, pointer_call, number, Plain, Plains, act, set, branch, loop, switch, case_label, default_label, leave, continue, give, parts, nothing, more, PlainFunction, PlainFile}
 use Rattle.cf_plain.specs.Valid.{action_fits, is_label, fits, all_fit, labelled_fit, labels_differ, body_fits, function_fits, static_fits, valid_file}
-use Rattle.cf_plain_kept.specs.Kept.{Kept, Keeping, nothing_set, keep, untouched, all_set, integer_in, returned, kept_by, joined, after, after_all, common, function_kept, functions_kept}
+use Rattle.cf_plain_kept.specs.Kept.{Kept, a_place, an_object, Keeping, nothing_set, keep, untouched, all_set, integer_in, returned, begun, filled, kept_by, joined, after, after_all, common, function_kept, functions_kept}
 use Rattle.cf_lower_kept.specs.Opened as definition
-use Rattle.cf_lower_kept.specs.Opened.{Opened, settled, Where, falls, away, wrong, Ways, no_label, comes_to, only_if, prepared, set_in, where_set, where_unset, keeping_or, stands_before, parameters_open}
+use Rattle.cf_lower_kept.specs.Opened.{Opened, settled, Where, falls, away, wrong, Ways, no_label, comes_to, only_if, prepared, where_set, where_unset, keeping_or, stands_before, parameters_open}
 use Rattle.cf_lowerable_open.specs.Heads.{as_switch, first_switch, passes}
 use Rattle.cf_lowerable_open.specs.Objects.{Objects, no_objects, placed, without, shared, object_given, behind, behind_all}
 use Rattle.cf_lowerable_open.specs.Walk as walk
@@ -192,15 +192,27 @@ module _ (locals : List SourceType) (result : SourceType) where
 
   -- ---- actions
 
-  may_alike : (g : Keeping) (a : Action) (xs : List Opened) → definition.action_opens g a xs ≡ walk.may_act (objects g) a xs
-  may_alike g (declare i t) xs = refl
-  may_alike g (first r q) xs = refl
-  may_alike g (zeros r) xs = refl
-  may_alike g (bytes r b) xs = refl
-  may_alike g (finish t i) xs = refl
-  may_alike g (call name t object is into) xs = refl
-  may_alike g (pointer_call object r t is into) xs = refl
-  may_alike g a xs = refl
+  first_alike : (o p : Option Kept) (r : Register) (xs : List Opened) → is_some (begun o p) ≡ true
+      → definition.starts_well o r xs ≡ walk.starts_in (definition.object_kept o) r xs
+  first_alike (Some (an_object i t)) p r xs e = refl
+  first_alike (Some (a_place t)) p r xs e = refl
+  first_alike o p r xs e = absurd (let k = e in cc)
+
+  filled_alike : (o : Option Kept) (r : Register) (xs : List Opened) → is_some (filled o) ≡ true → definition.starts_well o r xs ≡ walk.starts_in (definition.object_kept o) r xs
+  filled_alike (Some (an_object i t)) r xs e = refl
+  filled_alike (Some (a_place t)) r xs e = refl
+  filled_alike o r xs e = absurd (let k = e in cc)
+
+  -- where its operands are what is taken
+  may_alike : (g : Keeping) (a : Action) (xs : List Opened) → is_some (kept_by locals result g a) ≡ true → definition.action_opens g a xs ≡ walk.may_act (objects g) a xs
+  may_alike g (declare i t) xs k = refl
+  may_alike g (first r q) xs k = first_alike (g r) (g q) r xs k
+  may_alike g (zeros r) xs k = filled_alike (g r) r xs k
+  may_alike g (bytes r b) xs k = filled_alike (g r) r xs k
+  may_alike g (finish t i) xs k = refl
+  may_alike g (call name t object is into) xs k = refl
+  may_alike g (pointer_call object r t is into) xs k = refl
+  may_alike g a xs k = refl
 
   acted_alike : (g : Keeping) (r : Option Register) (a : Action) (xs : List Opened) → definition.opened_by g r a xs ≡ walk.acted (objects g) r a xs
   acted_alike g r (number z) xs = refl
@@ -210,6 +222,21 @@ module _ (locals : List SourceType) (result : SourceType) where
   acted_alike g r (call name t object is into) xs = refl
   acted_alike g r (pointer_call object q t is into) xs = refl
   acted_alike g r a xs = refl
+
+  set_alike : (g : Keeping) (r : Register) (a : Action) (xs : List Opened) → definition.set_by g r a xs ≡ walk.set_acted (objects g) r a xs
+  set_alike g r (decay q) xs = refl
+  set_alike g r (index p q) xs = refl
+  set_alike g r (number z) xs = refl
+  set_alike g r (declare i t) xs = refl
+  set_alike g r (first p q) xs = refl
+  set_alike g r (finish t i) xs = refl
+  set_alike g r (call name t object is into) xs = refl
+  set_alike g r (pointer_call object q t is into) xs = refl
+  set_alike g r a xs = refl
+
+  some_kept : (o : Option Kept) (f : Kept → Keeping) → is_some (elim o [ None ↦ None | Some x ↦ Some (f x) ]) ≡ true → is_some o ≡ true
+  some_kept None f e = e
+  some_kept (Some x) f e = refl
 
   at_label : (o : Option (List Opened)) (ss : Plains) (w : Ways) → ((ys : List Opened) → definition.all_open locals result ss nothing_set w ys ≡ walk.all_open ss no_objects w ys)
       → ◌≡◌ {A = Where} (elim o [ None ↦ wrong | Some ys ↦ definition.all_open locals result ss nothing_set w ys ]) (elim o [ None ↦ wrong | Some ys ↦ walk.all_open ss no_objects w ys ])
@@ -243,10 +270,12 @@ module _ (locals : List SourceType) (result : SourceType) where
   mutual
     opens_alike : (b c : Bool) (s : Plain) (g : Keeping) (w : Ways) (xs : List Opened) → (is_label locals s || fits locals b c s) ≡ true → Typed locals g
         → is_some (after locals result s g) ≡ true → definition.opens locals result s g w xs ≡ walk.opens s (objects g) w xs
-    opens_alike b c (act a) g w xs v e k = ap (λ t. only_if t (falls (definition.opened_by g None a xs))) (may_alike g a xs) ∙ ap (λ l. only_if (walk.may_act (objects g) a xs) (falls l)) (acted_alike g None a xs)
+    opens_alike b c (act a) g w xs v e k =
+        ap (λ t. only_if t (falls (definition.opened_by g None a xs))) (may_alike g a xs (some_kept (kept_by locals result g a) (λ x. g) k))
+        ∙ ap (λ l. only_if (walk.may_act (objects g) a xs) (falls l)) (acted_alike g None a xs)
     opens_alike b c (set r a) g w xs v e k =
-        ap (λ t. only_if t (falls (definition.opened_by g (Some r) a (set_in r xs)))) (may_alike g a xs)
-        ∙ ap (λ l. only_if (walk.may_act (objects g) a xs) (falls l)) (acted_alike g (Some r) a (set_in r xs))
+        ap (λ t. only_if t (falls (definition.set_by g r a xs))) (may_alike g a xs (some_kept (kept_by locals result g a) (λ x. keep g r x) k))
+        ∙ ap (λ l. only_if (walk.may_act (objects g) a xs) (falls l)) (set_alike g r a xs)
     opens_alike b c (branch r ss ts) g w xs v e k =
         let two = both (all_fit locals b c ss) (all_fit locals b c ts) v in
         let ways = if_some (integer_in (g r)) (joined locals result (after_all locals result ss g) (after_all locals result ts g)) k in

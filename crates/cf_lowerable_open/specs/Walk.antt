@@ -1,20 +1,25 @@
 -- Which locals are open at each place of a function, by the objects that its registers hold alone: the definition of `Opened`, without what else they hold.
 use Rattle.std.specs.Prelude.{ℕ, Bool, true, false, ◌&&◌, not, ◌==◌, if◌then◌else◌, List, [], ◌∷◌, map, ℤ, Option, Some, None}
-use Rattle.std.specs.List.{list_all}
+use Rattle.std.specs.List.{list_all, list_any}
 use Rattle.cf_core.specs.Types.{parameters}
-use Rattle.cf_plain.specs.Plain.{Register, Action, number, declare, first, zeros, bytes, finish, call, pointer_call, Plain, Plains, act, set, branch, loop, switch, case_label, default_label, leave, continue, give, parts, nothing, more, PlainFunction, PlainFile}
-use Rattle.cf_lower_kept.specs.Opened.{Opened, settled, is_open, begun_well, has_its_value, differ, numbered, declared_among, valued_in, closed, closed_all, where_set, where_unset, prepared, Where, falls, away, wrong, joined, comes_to, is_at, only_if, set_in, Ways, no_label, declared_at, stands_before, parameters_open}
+use Rattle.cf_plain.specs.Plain.{Register, Action, number, decay, index, declare, first, zeros, bytes, finish, call, pointer_call, Plain, Plains, act, set, branch, loop, switch, case_label, default_label, leave, continue, give, parts, nothing, more, PlainFunction, PlainFile}
+use Rattle.cf_lower_kept.specs.Opened.{Opened, has_object, first_counts, further_counts, number_in, overwritten, settled, is_open, may_begin, has_its_value, differ, numbered, declared_among, valued_in, closed, closed_all, where_set, where_unset, prepared, Where, falls, away, wrong, joined, comes_to, is_at, only_if, set_in, Ways, no_label, declared_at, stands_before, parameters_open}
 use Rattle.cf_lowerable_open.specs.declared.heads.Head.{Head}
 use Rattle.cf_lowerable_open.specs.Heads.{labelled_by}
 use Rattle.cf_lowerable_open.specs.Objects.{Objects, no_objects, behind}
 
 -- ---- actions
 
+-- whether something may begin in this register: the object that it holds, or a part of one
+abbrev pub starts_in : Option ℕ → Register → List Opened → Bool
+starts_in (Some i) r xs = may_begin i r xs
+starts_in None r xs = list_any (λ x. has_object (x.places r)) xs
+
 abbrev pub may_act : Objects → Action → List Opened → Bool
 may_act g (declare i t) xs = not (is_open i xs)
-may_act g (first r q) xs = begun_well (g r) r xs
-may_act g (zeros r) xs = begun_well (g r) r xs
-may_act g (bytes r b) xs = begun_well (g r) r xs
+may_act g (first r q) xs = starts_in (g r) r xs
+may_act g (zeros r) xs = starts_in (g r) r xs
+may_act g (bytes r b) xs = starts_in (g r) r xs
 may_act g (finish t i) xs = is_open i xs
 may_act g (call name t object is into) xs = differ is && list_all (has_its_value xs) is
 may_act g (pointer_call object r t is into) xs = differ is && list_all (has_its_value xs) is
@@ -23,12 +28,18 @@ may_act g a xs = true
 -- what is open behind an action, whose value goes to this register, if to any
 abbrev pub acted : Objects → Option Register → Action → List Opened → List Opened
 acted g r (number z) xs = numbered r z xs
-acted g r (declare i t) xs = declared_among i r xs
+acted g r (declare i t) xs = declared_among i r t xs
 acted g r (first p q) xs = valued_in (g p) xs
 acted g r (finish t i) xs = closed i xs
 acted g r (call name t object is into) xs = closed_all is xs
 acted g r (pointer_call object q t is into) xs = closed_all is xs
 acted g r a xs = xs
+
+-- the same behind an action whose value goes to this register, and may be a place in an object
+abbrev pub set_acted : Objects → Register → Action → List Opened → List Opened
+set_acted g r (decay q) xs = map (λ x. overwritten r (first_counts (x.places q)) x) xs
+set_acted g r (index p q) xs = map (λ x. overwritten r (further_counts (number_in x.last q) (x.places p)) x) xs
+set_acted g r a xs = acted g (Some r) a (set_in r xs)
 
 -- ---- what is around statements
 
@@ -54,7 +65,7 @@ in_headed w before ys = record { breaks = Some ys; continues = w.continues; labe
 abbrev mutual
   pub opens : Plain → Objects → Ways → List Opened → Where
   opens (act a) g w xs = only_if (may_act g a xs) (falls (acted g None a xs))
-  opens (set r a) g w xs = only_if (may_act g a xs) (falls (acted g (Some r) a (set_in r xs)))
+  opens (set r a) g w xs = only_if (may_act g a xs) (falls (set_acted g r a xs))
   opens (branch r ss ts) g w xs = joined (all_open ss g w (where_set r xs)) (all_open ts g w (where_unset r xs))
   opens (loop ss ts) g w xs =
       let ys = map settled xs in
@@ -136,7 +147,7 @@ abbrev pub done : Objects → Option Register → Action → List Opened → Whe
 done g r a xs = only_if (may_act g a xs) (falls (acted g r a xs))
 
 abbrev pub set_done : Objects → Register → Action → List Opened → Where
-set_done g r a xs = only_if (may_act g a xs) (falls (acted g (Some r) a (set_in r xs)))
+set_done g r a xs = only_if (may_act g a xs) (falls (set_acted g r a xs))
 
 abbrev pub labelled : Option ℤ → Ways → List Opened → Where
 labelled l w xs = only_if (is_at (w.labels l) xs) (falls (map settled xs))
