@@ -46,17 +46,17 @@ abbrev pub moved_route : ℕ → Route → Route
 moved_route k π = route_of (element_of π) ((element_of π).index + k)
 
 -- and a register has a place in it: so many elements further an object stands, of as many elements in turn as are told
-pub record Part (count i : ℕ) (r : Register) (k : ℕ) (rows : Counts) (g : Registers) (s : State) : Type 0 where
+pub record Part (count i : ℕ) (r : Register) (k : ℕ) (ns : Counts) (g : Registers) (s : State) : Type 0 where
   pub one : Stands count i s
   pub route : Route
   pub place : g r ≡ Some (source.At (record { object = one.object; route = route }))
   pub inside : leads [] (s.object one.object).type (moved_route k route) ≡ true
-  pub rows : rows_of (type_at [] (s.object one.object).type route) ≡ rows
+  pub rows : rows_of (type_at [] (s.object one.object).type route) ≡ ns
 
 -- what is told of a place in it
 abbrev pub Parts : ℕ → ℕ → Register → Counts → Registers → State → Type 0
 Parts count i r [] g s = Unit {0}
-Parts count i r (n ∷ rows) g s = (k : ℕ) → k < n → Part count i r k rows g s
+Parts count i r (n ∷ ns) g s = (k : ℕ) → k < n → Part count i r k ns g s
 
 -- one of so many parameters and locals whose object does not stand
 abbrev pub IsOver : ℕ → ℕ → State → Type 0
