@@ -7,7 +7,7 @@ use Rattle.cf_core.specs.Store as source
 use Rattle.cf_core.specs.Run.{State}
 use Rattle.cf_core.specs.Calls.{root}
 use Rattle.cf_core.specs.Objects.{static_number}
-use Rattle.cf_lower_layout.specs.Layout.{leads}
+use Rattle.cf_lower_layout.specs.Layout.{leads, const_once}
 use Rattle.cf_plain.specs.Plain.{Register}
 use Rattle.cf_plain.specs.Acts.{Registers}
 use Rattle.cf_plain_frames.specs.Since.{HasValue}
@@ -52,6 +52,7 @@ pub record Part (count i : ℕ) (r : Register) (k : ℕ) (ns : Counts) (g : Regi
   pub place : g r ≡ Some (source.At (record { object = one.object; route = route }))
   pub inside : leads [] (s.object one.object).type (moved_route k route) ≡ true
   pub rows : rows_of (type_at [] (s.object one.object).type route) ≡ ns
+  pub once : const_once (type_at [] (s.object one.object).type route) ≡ true
 
 -- what is told of a place in it
 abbrev pub Parts : ℕ → ℕ → Register → Counts → Registers → State → Type 0

@@ -70,7 +70,7 @@ is_register (Some q) r = q == r
 -- how many elements an array has, how many each of them has, and so on
 abbrev pub rows_of : SourceType → Counts
 rows_of (array t n) = n ∷ rows_of t
-rows_of (const (array t n)) = n ∷ rows_of t
+rows_of (const t) = rows_of t
 rows_of t = []
 
 -- whether an object stands at the place

@@ -1,15 +1,16 @@
 -- What has to be so of the source before a leaf is so at a point, where the leaf may stand.
-use Rattle.std.proofs.Common.{◌≡◌, ℕ, ◌<◌, nat_lt, Bool, true, false, ◌&&◌, not, if◌then◌else◌, List, [], refl, sym, ◌∙◌, ap, subst, arith, ◌⊎◌, inl, inr}
-use Rattle.std.specs.Prelude.{Option, Some, length}
+use Rattle.std.proofs.Common.{◌≡◌, ℕ, ◌<◌, nat_lt, nat_le, Bool, true, false, ◌&&◌, not, if◌then◌else◌, List, [], refl, sym, ◌∙◌, ap, subst, arith, ◌⊎◌, inl, inr}
+use Rattle.std.specs.Prelude.{◌^◌, Option, Some, length}
 use Rattle.std.specs.List.{list_any}
 use Rattle.std.proofs.lemmas.Bool.Decides.{nat_tests}
 use Rattle.cf_base.proofs.Tests.{both}
 use Rattle.cf_core.specs.Types.{SourceType, type_eq, without_const}
 use Rattle.cf_core.specs.Places.{Place, is_scalar}
+use Rattle.cf_core.specs.Size.{size}
 use Rattle.cf_core.specs.Store as source
 use Rattle.cf_core.specs.Run.{State}
 use Rattle.cf_core.specs.Calls.{root}
-use Rattle.cf_lower_layout.specs.Layout.{leads}
+use Rattle.cf_lower_layout.specs.Layout.{leads, has_bytes, const_once}
 use Rattle.cf_lower_layout.specs.Sorts.{address, sort_to}
 use Rattle.cf_plain.specs.Plain as plain
 use Rattle.cf_plain.specs.Plain.{Register, Plain, act, set}
@@ -58,6 +59,13 @@ declared-below z i t e =
     let two = both (nat_lt i (length z.body.own.locals.types)) (type_eq (without_const t) (without_const (type_of_local z.body.own.locals i))) one.0 in
     let k = two.0 in
     grind (arith, nat_tests, k)
+
+-- and no const of its type stands on const
+pub declared-once : (z : Scene) (i : ℕ) (t : SourceType) → leaf.may_begin z i t ≡ true → const_once t ≡ true
+declared-once z i t e =
+    let one = both (is_local z.body.own.locals i t) (is_laid z.program.classes t) e in
+    let two = both (nat_le (size z.program.classes t) (2 ^ 22)) (has_bytes t && const_once t) one.1 in
+    (both (has_bytes t) (const_once t) two.1).1
 
 module _ (z : Scene) (gk : told.Keeping) (h : Keeping) (tells : AllTold z.inside.locals gk h) (xs : List Opened) (g : Registers) (s : State)
     (open_here : Open (local_count z) xs g s) (frame : InFrame z s) where

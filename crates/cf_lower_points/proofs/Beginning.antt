@@ -8,7 +8,7 @@ use Rattle.cf_core.specs.Store.{Object, new_object, automatic}
 use Rattle.cf_core.specs.Run.{State, upd, with_object, gone, lists_local}
 use Rattle.cf_core.specs.Calls.{root}
 use Rattle.cf_core.specs.Objects.{static_number}
-use Rattle.cf_lower_layout.specs.Layout.{leads}
+use Rattle.cf_lower_layout.specs.Layout.{leads, const_once}
 use Rattle.cf_plain.specs.Plain.{Register}
 use Rattle.cf_plain.specs.Acts.{Registers}
 use Rattle.cf_plain_frames.specs.Since.{HasValue}
@@ -33,7 +33,7 @@ module _ (count : ℕ) where
   without-true true e = absurd (let k = e in cc)
   without-true false e = refl
 
-  module _ (s : State) (i : ℕ) (t : SourceType) (bounded : Bounded count s) (lt : i < count) where
+  module _ (s : State) (i : ℕ) (t : SourceType) (bounded : Bounded count s) (lt : i < count) (once : const_once t ≡ true) where
     abbrev pub declared : State
     declared = record s { next = suc s.next; object = upd s.next (new_object t automatic) s.object; frame = lists_local i s.next s.frame }
 
@@ -96,6 +96,7 @@ module _ (count : ℕ) where
       place = place;
       inside = subst (λ j. leads [] (declared.object s.next).type (moved_route j []) ≡ true) (let e : 0 ≡ k = omega (arith, lt) in e) refl;
       rows = ap (λ (b : Bool). rows_of (if b then new_object t automatic else s.object s.next).type) (at-itself s.next);
+      once = ap (λ (b : Bool). const_once (if b then new_object t automatic else s.object s.next).type) (at-itself s.next) ∙ once;
     }
 
     new-parts : (g : Registers) (b : Option Register) → ((r : Register) → b ≡ Some r → g r ≡ Some (source.At (root s.next))) → (r : Register)

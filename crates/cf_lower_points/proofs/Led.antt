@@ -12,7 +12,7 @@ use Rattle.cf_core.specs.Run.{State, Did, Gives, Exits, Malformed, Act, onward, 
 use Rattle.cf_core.specs.Access.{place_type, used, place_of, first_value}
 use Rattle.cf_core.specs.Calls.{root, destroy}
 use Rattle.cf_core.specs.Objects.{static_number, settle}
-use Rattle.cf_lower_layout.specs.Layout.{has_bytes}
+use Rattle.cf_lower_layout.specs.Layout.{has_bytes, const_once}
 use Rattle.cf_lower_actions.proofs.LowerObjects.{destroyed}
 use Rattle.cf_plain.specs.Plain as plain
 use Rattle.cf_plain.specs.Plain.{Register, Action, Plain, act, set, give}
@@ -28,7 +28,7 @@ use Rattle.cf_lower_actions.specs.Leaf.{may_set, may_do, is_leaf}
 use Rattle.cf_lower_actions.specs.Leaf as leaf
 use Rattle.cf_lower_bounds.specs.Points.{Standing, never, these, Open, StandsAs, InFrame, local_count}
 use Rattle.cf_lower_points.specs.Leading.{leads_on, standing_behind}
-use Rattle.cf_lower_points.proofs.Before.{starts-as, BegunAs, PartAs, declared-below}
+use Rattle.cf_lower_points.proofs.Before.{starts-as, BegunAs, PartAs, declared-below, declared-once}
 use Rattle.cf_lower_points.proofs.Beginning.{open-declared, frame-declared, open-finished, frame-finished}
 use Rattle.cf_lower_points.proofs.Indexed.{decay-gives, index-gives}
 use Rattle.cf_lower_points.proofs.Placed.{GivesFirst, GivesFurther, first-parts, further-parts}
@@ -157,13 +157,13 @@ module _ (z : Scene) (again : Again) (gk : told.Keeping) (h : Keeping) (xs : Lis
 
   -- ---- a declaration
 
-  module _ (i : ℕ) (t : SourceType) (lt : i < local_count z) where
+  module _ (i : ℕ) (t : SourceType) (lt : i < local_count z) (once : const_once t ≡ true) where
     declare-act : (b : Bool) → Given (Behind z (these (declared_among i None t xs)))
         (((valid b >> (declared_object t >>= (λ o. frame_changed (lists_local i o) >> gives o))) >>= (λ o. gives (source.At (root o))) >> gives (Falls g)) s w)
     declare-act true = record {
       by = (
-        frame-declared (local_count z) s i t bounded lt z frame statics,
-        open-declared (local_count z) s i t bounded lt g None xs open_here (λ r e. absurd (let k = e in cc)),
+        frame-declared (local_count z) s i t bounded lt once z frame statics,
+        open-declared (local_count z) s i t bounded lt once g None xs open_here (λ r e. absurd (let k = e in cc)),
       );
     }
     declare-act false = record { by = tt }
@@ -172,8 +172,8 @@ module _ (z : Scene) (again : Again) (gk : told.Keeping) (h : Keeping) (xs : Lis
         (((valid b >> (declared_object t >>= (λ o. frame_changed (lists_local i o) >> gives o))) >>= (λ o. gives (source.At (root o))) >>= (λ v. gives (Falls (keep g r v)))) s w)
     declare-set r true = record {
       by = (
-        frame-declared (local_count z) s i t bounded lt z frame statics,
-        open-declared (local_count z) s i t bounded lt (keep g r (source.At (root s.next))) (Some r) (set_in r xs)
+        frame-declared (local_count z) s i t bounded lt once z frame statics,
+        open-declared (local_count z) s i t bounded lt once (keep g r (source.At (root s.next))) (Some r) (set_in r xs)
             (open-set (local_count z) r (source.At (root s.next)) g s xs open_here)
             (λ q e. ap (keep g r (source.At (root s.next))) (some-register (sym e)) ∙ kept-same g r (source.At (root s.next))),
       );
@@ -279,7 +279,7 @@ module _ (z : Scene) (again : Again) (gk : told.Keeping) (h : Keeping) (xs : Lis
 
   act-led : (a : Action) → may_do z h a ≡ true → action_opens gk a xs ≡ true → LedBy (act a)
   act-led (plain.declare i t) l e =
-      declare-act i t (declared-below z i t l) (nat_lt i s.frame.count)
+      declare-act i t (declared-below z i t l) (declared-once z i t l) (nat_lt i s.frame.count)
   act-led (plain.first p q) l e = by_start (starts-as (gk p) p xs e)
     where
       by_start : BegunAs (gk p) p xs ⊎ PartAs (gk p) p xs → LedBy (act (plain.first p q))
@@ -313,7 +313,7 @@ module _ (z : Scene) (again : Again) (gk : told.Keeping) (h : Keeping) (xs : Lis
   act-led a l e = absurd (let k = l in cc)
 
   set-led : (r : Register) (a : Action) → may_set z h a ≡ true → action_opens gk a xs ≡ true → LedBy (set r a)
-  set-led r (plain.declare i t) l e = declare-set i t (declared-below z i t l) r (nat_lt i s.frame.count)
+  set-led r (plain.declare i t) l e = declare-set i t (declared-below z i t l) (declared-once z i t l) r (nat_lt i s.frame.count)
   set-led r (plain.text j b) l e = quiet-set r (plain.text j b) refl
   set-led r (plain.number y) l e = number-set r y
   set-led r (plain.local i) l e = quiet-set r (plain.local i) refl

@@ -1,16 +1,16 @@
 -- Places in the objects of locals: where what is told of one stays so, and what is told of that of an array's first element, and of one some elements further.
-use Rattle.std.proofs.Common.{◌≡◌, ℕ, zero, suc, ◌+◌, ◌-◌, ◌<◌, nat_lt, Bool, true, false, ◌&&◌, ◌==◌, if◌then◌else◌, List, [], ◌∷◌, refl, sym, ◌∙◌, ap, subst, arith}
+use Rattle.std.proofs.Common.{◌≡◌, ℕ, zero, suc, ◌+◌, ◌-◌, ◌<◌, nat_lt, Bool, true, false, not, ◌&&◌, ◌==◌, if◌then◌else◌, List, [], ◌∷◌, refl, sym, ◌∙◌, ap, subst, arith}
 use Rattle.std.specs.Prelude.{ℤ, pos, negsuc, Option, Some, None}
 use Rattle.std.proofs.lemmas.Bool.Decides.{nat_tests}
 use Rattle.cf_base.proofs.Tests.{both, all_of}
 use Rattle.cf_core.specs.Types.{SourceType, array, const, plain, element}
 use Rattle.cf_core.specs.Classes.{Class}
 use Rattle.cf_core.specs.Core.{item, past, field, within}
-use Rattle.cf_core.specs.Places.{Route, type_at}
+use Rattle.cf_core.specs.Places.{Route, type_at, is_const}
 use Rattle.cf_core.specs.Pointers.{element_of, lone_route}
 use Rattle.cf_core.specs.Store as source
 use Rattle.cf_core.specs.Run.{State}
-use Rattle.cf_lower_layout.specs.Layout.{has_item, leads}
+use Rattle.cf_lower_layout.specs.Layout.{has_item, leads, const_once}
 use Rattle.cf_lower_layout.proofs.Elements.{moved-type}
 use Rattle.cf_plain.specs.Plain.{Register}
 use Rattle.cf_plain.specs.Acts.{Registers}
@@ -81,15 +81,26 @@ below-too : {k m n : ℕ} → n ≡ m → k < m → nat_lt k n ≡ true
 below-too e lt = grind (arith, nat_tests, e, lt)
 
 -- an array has as many elements as is told, and its elements as many in turn
-pub rows-items : (t : SourceType) (m : ℕ) (ms : Counts) → rows_of t ≡ m ∷ ms → (k : ℕ) → k < m → has_item (plain t) k ≡ true
-rows-items (array u n) m ms e k lt = below-too (same-head e) lt
-rows-items (const (array u n)) m ms e k lt = below-too (same-head e) lt
-rows-items t m ms e k lt = absurd (let i = e in cc)
+pub rows-items : (t : SourceType) (m : ℕ) (ms : Counts) → const_once t ≡ true → rows_of t ≡ m ∷ ms → (k : ℕ) → k < m → has_item (plain t) k ≡ true
+rows-items (array u n) m ms once e k lt = below-too (same-head e) lt
+rows-items (const (array u n)) m ms once e k lt = below-too (same-head e) lt
+rows-items (const (const u)) m ms once e k lt = absurd (let i = once in cc)
+rows-items t m ms once e k lt = absurd (let i = e in cc)
 
-pub rows-element : (t : SourceType) (m : ℕ) (ms : Counts) → rows_of t ≡ m ∷ ms → rows_of (element (plain t)) ≡ ms
-rows-element (array u n) m ms e = same-tail e
-rows-element (const (array u n)) m ms e = same-tail e
-rows-element t m ms e = absurd (let i = e in cc)
+pub rows-element : (t : SourceType) (m : ℕ) (ms : Counts) → const_once t ≡ true → rows_of t ≡ m ∷ ms → rows_of (element (plain t)) ≡ ms
+rows-element (array u n) m ms once e = same-tail e
+rows-element (const (array u n)) m ms once e = same-tail e
+rows-element (const (const u)) m ms once e = absurd (let i = once in cc)
+rows-element t m ms once e = absurd (let i = e in cc)
+
+once-element : (t : SourceType) → const_once t ≡ true → const_once (element (plain t)) ≡ true
+once-element (array u n) once = once
+once-element (const u) once = under u (both (not (is_const u)) (const_once u) once).1
+  where
+    under : (u : SourceType) → const_once u ≡ true → const_once (element u) ≡ true
+    under (array v n) o = o
+    under v o = o
+once-element t once = once
 
 -- ---- places that actions give
 
@@ -121,6 +132,7 @@ module _ (count : ℕ) where
         place = same ∙ h.place;
         inside = ap (λ (t : SourceType). leads [] t (moved_route k h.route)) now.1.1 ∙ h.inside;
         rows = ap (λ (t : SourceType). rows_of (type_at [] t h.route)) now.1.1 ∙ h.rows;
+        once = ap (λ (t : SourceType). const_once (type_at [] t h.route)) now.1.1 ∙ h.once;
       }
 
   pub parts-again : (i : ℕ) (r : Register) (ns : Counts) (g f : Registers) (s u : State) → GoesOn i s u → f r ≡ g r → Parts count i r ns g s → Parts count i r ns f u
@@ -142,8 +154,9 @@ module _ (count : ℕ) where
       inside = subst (λ j. leads [] (s.object h.one.object).type (item j ∷ h.route) ≡ true) (let e : k ≡ 0 + k = omega arith in e)
           (all_of (leads [] (s.object h.one.object).type h.route) (has_item (plain (type_at [] (s.object h.one.object).type h.route)) k)
           (subst (λ π. leads [] (s.object h.one.object).type π ≡ true) (moved-none h.route) h.inside)
-          (rows-items (type_at [] (s.object h.one.object).type h.route) m ms h.rows k lt));
-      rows = rows-element (type_at [] (s.object h.one.object).type h.route) m ms h.rows;
+          (rows-items (type_at [] (s.object h.one.object).type h.route) m ms h.once h.rows k lt));
+      rows = rows-element (type_at [] (s.object h.one.object).type h.route) m ms h.once h.rows;
+      once = once-element (type_at [] (s.object h.one.object).type h.route) h.once;
     }
 
     pub first-parts : (q : Register) → GivesFirst g q v → (ns : Counts) → Parts count i q ns g s → Parts count i r (first_counts ns) f s
@@ -169,4 +182,5 @@ module _ (count : ℕ) where
           place = set ∙ ap (λ (x : source.Value). Some x) (gives part.one.object part.route j part.place (holds (pos j) refl));
           inside = further-leads (s.object part.one.object).type part.route j k part.inside;
           rows = ap rows_of (moved-type [] (s.object part.one.object).type part.route ((element_of part.route).index + j)) ∙ part.rows;
+          once = ap const_once (moved-type [] (s.object part.one.object).type part.route ((element_of part.route).index + j)) ∙ part.once;
         }
