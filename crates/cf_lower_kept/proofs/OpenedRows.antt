@@ -5,7 +5,7 @@ use Rattle.std.specs.Prelude.{pos, codes, Some, None}
 use Rattle.cf_base.specs.declared.kind.Kind.TheVariants.{Char, Int}
 use Rattle.cf_core.specs.Types.{SourceType, void, integer, reference, array, takes, gives, const}
 use Rattle.cf_core.specs.Core.{plain_function}
-use Rattle.cf_plain.specs.Plain.{number, local, function, read, truth, declare, first, finish, call, Plains, act, set, branch, switch, case_label, default_label, leave, give, nothing, more, PlainFunction}
+use Rattle.cf_plain.specs.Plain.{number, local, function, read, decay, index, truth, declare, first, zeros, bytes, finish, call, Plains, act, set, branch, switch, case_label, default_label, leave, give, nothing, more, PlainFunction}
 use Rattle.cf_lower_kept.specs.Opened.{function_opens}
 
 function_of : Plains → PlainFunction

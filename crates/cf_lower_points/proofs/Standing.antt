@@ -29,7 +29,7 @@ record StillLast (o : Option (Register × ℤ)) (r q : Register) (n : ℤ) : Typ
   pub was : o ≡ Some (q, n)
   pub other : q == r ≡ false
 
-number-at : Option (Register × ℤ) → Register → Register
+abbrev number-at : Option (Register × ℤ) → Register → Register
 number-at None r = r
 number-at (Some x) r = x.0
 
