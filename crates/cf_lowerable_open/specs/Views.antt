@@ -44,7 +44,7 @@ holding o r = object_at o.held.items r
 -- ---- statements and actions, by the tables of their file
 
 abbrev pub tables_in : Scene → Tables
-tables_in x = record { types = x.types.now; classes = x.classes.now }
+tables_in x = x.tables.now
 
 abbrev pub statement_in : Scene → CodePlain → Plain
 statement_in x = plain_of (tables_in x) (signature_of (tables_in x))

@@ -6,8 +6,8 @@ ghost use Rattle.cf_lowerable_open.specs.Objects as objects;
 ghost use Rattle.cf_lowerable_open.specs.Views.{action_in, holding};
 ghost use Rattle.cf_lowerable_open.specs.Walk as spec;
 
-use crate::changes::{Change, change_all};
-use crate::lists::{close, close_all, declare, is_open, may_begin, may_pass};
+use crate::changes::{Change, change_all, place_first, place_further};
+use crate::lists::{close, close_all, declare, has_part, is_open, may_begin, may_pass};
 use crate::objects::Objects;
 use crate::opened::Opened;
 use crate::scene::Scene;
@@ -24,12 +24,12 @@ pub fn object_given(x: &Scene<'_>, a: &Action) -> Option<u32>
     }
 }
 
-/// Whether the object in this register may get its first value there.
+/// Whether something may begin in this register: the object that it holds, or a part of one.
 fn begins(local: Option<u32>, register: u32, all: &[Opened]) -> bool
-    ensures { result ≡ definition.begun_well local register all.now }
+    ensures { result ≡ spec.starts_in local register all.now }
 {
     match local {
-        None => false,
+        None => has_part(register, all),
         Some(local) => may_begin(local, register, all),
     }
 }
@@ -56,7 +56,10 @@ fn number(register: Option<u32>, value: i64, all: &mut Vec<Opened>)
 {
     match register {
         None => {}
-        Some(register) => change_all(all, Change::Told(register, value)),
+        Some(register) => {
+            change_all(all, Change::Told(register, value));
+            change_all(all, Change::Counted(register, value));
+        }
     }
 }
 
@@ -85,7 +88,7 @@ pub fn act(
             number(register, *value, all);
             Ok(())
         }
-        Action::Declare { local, .. } => declare(*local, register, all),
+        Action::Declare { local, ty } => declare(x, *local, *ty, register, all),
         Action::First { place, .. } => {
             give_value(g.get(*place), all);
             Ok(())
@@ -103,5 +106,25 @@ pub fn act(
             Ok(())
         }
         _ => Ok(()),
+    }
+}
+
+/// What is open behind an action whose value goes to this register, and may be a place in an object.
+pub fn act_in(
+    x: &Scene<'_>,
+    g: &Objects,
+    register: u32,
+    a: &Action,
+    all: &mut Vec<Opened>,
+) -> Result<(), Memory>
+    ensures { OnOk result (all.new.items ≡ spec.set_acted (holding g.now) register (action_in x.now a.now) all.old.items) }
+{
+    match a {
+        Action::Decay { array } => place_first(x.alloc, all, register, *array),
+        Action::Index { left, right } => place_further(x.alloc, all, register, *left, *right),
+        _ => {
+            change_all(all, Change::Overwritten(register));
+            act(x, g, Some(register), a, all)
+        }
     }
 }

@@ -22,7 +22,12 @@ pub enum Where {
 }
 
 /// Puts what is so on both of two ways behind others.
-fn add_both(left: &[Opened], right: &[Opened], made: &mut Vec<Opened>) -> Result<(), Memory>
+fn add_both(
+    alloc: Global,
+    left: &[Opened],
+    right: &[Opened],
+    made: &mut Vec<Opened>,
+) -> Result<(), Memory>
     ensures { OnOk result (made.new.items ≡ made.old.items ++ spec.both_opened left.now right.now) }
 {
     match left.split_first() {
@@ -30,8 +35,8 @@ fn add_both(left: &[Opened], right: &[Opened], made: &mut Vec<Opened>) -> Result
         Some((x, xs)) => match right.split_first() {
             None => Ok(()),
             Some((y, ys)) => {
-                made.push(x.both(y))?;
-                add_both(xs, ys, made)
+                made.push(x.both(alloc, y)?)?;
+                add_both(alloc, xs, ys, made)
             }
         },
     }
@@ -42,7 +47,7 @@ fn both(alloc: Global, left: &[Opened], right: &[Opened]) -> Result<Vec<Opened>,
     ensures { IfOk result (λ made. made.items ≡ spec.both_opened left.now right.now) }
 {
     let mut made = Vec::new(alloc);
-    add_both(left, right, &mut made)?;
+    add_both(alloc, left, right, &mut made)?;
     Ok(made)
 }
 

@@ -11,6 +11,7 @@ use crate::opened::Opened;
 use crate::scene::Scene;
 use cf_base::Memory;
 use cf_plain::Plain;
+use std::alloc::Global;
 
 /// Whether a statement sets this register, or ends a local by it.
 fn is_end(register: u32, head: Head) -> bool
@@ -52,7 +53,12 @@ fn ended_by(x: &Scene<'_>, register: u32, rest: &[Plain]) -> Option<u32>
 }
 
 /// The local that this flag is for, which has no object, is listed.
-fn awaited(register: u32, local: Option<u32>, all: &mut Vec<Opened>) -> Result<(), Memory>
+fn awaited(
+    alloc: Global,
+    register: u32,
+    local: Option<u32>,
+    all: &mut Vec<Opened>,
+) -> Result<(), Memory>
     ensures { OnOk result (all.new.items ≡ definition.awaited register local all.old.items) }
 {
     match local {
@@ -61,7 +67,7 @@ fn awaited(register: u32, local: Option<u32>, all: &mut Vec<Opened>) -> Result<(
             if is_listed(local, all.as_slice()) {
                 Ok(())
             } else {
-                put(Opened::awaited(local, register), all)
+                put(Opened::awaited(alloc, local, register), all)
             }
         }
     }
@@ -77,7 +83,9 @@ pub fn prepare(
     ensures { OnOk result (all.new.items ≡ spec.prepared_by (spec.head_of (statement_in x.now s.now)) (statements_in x.now rest.now) all.old.items) }
 {
     match read_head(x, s) {
-        Head::Sets(register, true) => awaited(register, ended_by(x, register, rest), all),
+        Head::Sets(register, true) => {
+            awaited(x.alloc, register, ended_by(x, register, rest), all)
+        }
         Head::Sets(_, false)
         | Head::Case(_)
         | Head::Default

@@ -1,9 +1,10 @@
 //! Functions, and all of a file.
 
-ghost use Rattle.std.specs.Prelude.{◌≡◌, true, map, IfOk};
+ghost use Rattle.std.specs.Prelude.{◌≡◌, true, map, [], IfOk};
 ghost use Rattle.std.specs.List.{list_all};
 ghost use Rattle.cf_core.specs.FromTypes.{type_of};
 ghost use Rattle.cf_lower_kept.specs.Opened as definition;
+ghost use Rattle.cf_lower_types.specs.Ordered.{IsOrdered};
 ghost use Rattle.cf_plain.specs.View.{file_of, function_of};
 ghost use Rattle.cf_plain_kept.specs.Kept.{functions_kept};
 ghost use Rattle.cf_lowerable_open.specs.Views.{tables_in};
@@ -16,6 +17,7 @@ use crate::scene::Scene;
 use crate::statements::all_open;
 use crate::ways::{Labels, Ways};
 use cf_base::Memory;
+use cf_lower_types::Tables;
 use cf_plain::{PlainFn, PlainUnit};
 use cf_types::TyId;
 use std::alloc::Global;
@@ -34,7 +36,7 @@ fn parameters_open(x: &Scene<'_>, params: &[TyId]) -> Result<Vec<Opened>, Memory
     let mut made = Vec::new(x.alloc);
     for index in 0..params.len() {
         let local = number(index)?;
-        let parameter = Opened::new(local, None, true);
+        let parameter = Opened::new(x.alloc, local, None, true);
         made.push(parameter)?;
     }
     Ok(made)
@@ -73,13 +75,15 @@ fn all_functions_open(x: &Scene<'_>, functions: &[PlainFn]) -> Result<bool, Memo
 /// hold what is taken. Linear in the statements but for the locals that are open at each, the labels of a switch before a switch, the statements
 /// between a number and the branch that it may be the flag of, and the switches around a statement.
 pub fn functions_are_open(alloc: Global, unit: &PlainUnit) -> Result<bool, Memory>
+    requires ordered { IsOrdered unit.now.types }
+    requires no_classes { unit.now.classes.defined ≡ [] }
     ensures walked { IfOk result (λ is. is ≡ spec.functions_open (file_of unit.now)) }
     ensures opened { functions_kept (file_of unit.now) ≡ true → IfOk result (λ is. is ≡ definition.functions_open (file_of unit.now)) }
 {
+    let tables = Tables::new(unit.types(), unit.classes());
     let x = Scene {
         alloc,
-        types: unit.types(),
-        classes: unit.classes(),
+        tables: &tables,
     };
     all_functions_open(&x, unit.functions())
 }

@@ -9,7 +9,7 @@ ghost use Rattle.cf_lowerable_open.specs.Walk as walk;
 
 use crate::ends::Where;
 use crate::heads::{Head, Switched, read_head, switch_in};
-use crate::lists::{is_listed, put};
+use crate::lists::{copied, is_listed, put};
 use crate::opened::Opened;
 use crate::scene::Scene;
 use crate::ways::{Labels, Ways};
@@ -108,7 +108,7 @@ pub fn all_heads(x: &Scene<'_>, all: &[Plain]) -> Result<Vec<Head>, Memory>
 }
 
 /// What is open where a switch is left, behind declarations alone.
-fn declared(all: &[Head], here: Vec<Opened>) -> Result<Option<Vec<Opened>>, Memory>
+fn declared(alloc: Global, all: &[Head], here: Vec<Opened>) -> Result<Option<Vec<Opened>>, Memory>
     ensures { IfOk result (λ found. items_of found ≡ spec.declared_by all.now here.items) }
 {
     let mut made = here;
@@ -119,8 +119,8 @@ fn declared(all: &[Head], here: Vec<Opened>) -> Result<Option<Vec<Opened>>, Memo
                 if is_listed(local, made.as_slice()) {
                     Ok(None)
                 } else {
-                    put(Opened::new(local, None, false), &mut made)?;
-                    declared(rest, made)
+                    put(Opened::new(alloc, local, None, false), &mut made)?;
+                    declared(alloc, rest, made)
                 }
             }
             Head::Leaves => Ok(Some(made)),
@@ -144,8 +144,8 @@ fn declared_at(
         None => Ok(None),
         Some((head, rest)) => {
             if is_label(label, *head) {
-                let made = Vec::from_slice(alloc, here)?;
-                declared(rest, made)
+                let made = copied(alloc, here)?;
+                declared(alloc, rest, made)
             } else {
                 declared_at(alloc, rest, here, label)
             }
@@ -164,7 +164,7 @@ pub fn at_label(
     match labels {
         Labels::Nowhere => Ok(None),
         Labels::Everywhere(here) => {
-            let made = Vec::from_slice(alloc, here.as_slice())?;
+            let made = copied(alloc, here.as_slice())?;
             Ok(Some(made))
         }
         Labels::Passed(before, here) => {

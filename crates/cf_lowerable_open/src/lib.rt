@@ -1,7 +1,7 @@
 //! Whether the locals of plain functions are declared, begun and ended in order, as a test of plain units.
 //!
 //! `opened` is what is told of one local, `changes` what happens to each of a list, `lists` the lists, `ends` what is open where statements end,
-//! `objects` which object without a first value each register holds, `scene` and `ways` what statements stand in, `heads` what a statement is to
+//! `located` the places in objects that registers have, `objects` which object without a first value each register holds, `scene` and `ways` what statements stand in, `heads` what a statement is to
 //! those before it, `labels` what is open at labels, `flags` the flags of temporaries, `actions` actions, `places` what is open behind statements that
 //! hold no others, `forgets` the registers that statements set, `behind` the objects behind statements, `statements` what is open behind
 //! statements, and `functions` the test.
@@ -17,6 +17,7 @@ mod functions;
 mod heads;
 mod labels;
 mod lists;
+mod located;
 mod objects;
 mod opened;
 mod places;

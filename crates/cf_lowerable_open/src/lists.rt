@@ -1,13 +1,19 @@
 //! Lists of locals, the last that was declared first.
 
-ghost use Rattle.std.specs.Prelude.{◌≡◌, ◌==◌, ◌&&◌, ◌∷◌, length, OnOk};
+ghost use Rattle.std.specs.Prelude.{◌≡◌, ◌==◌, ◌&&◌, ◌∷◌, false, length, IfOk, OnOk};
 ghost use Rattle.std.specs.List.{list_all, list_any};
 ghost use Rattle.cf_lower_kept.specs.Opened as spec;
+ghost use Rattle.cf_core.specs.FromTypes.{type_of};
 ghost use Rattle.cf_lowerable_open.specs.Lists as walk;
+ghost use Rattle.cf_lowerable_open.specs.Views.{tables_in};
 
-use crate::changes::{Change, change_all};
+use crate::changes::begin_all;
+use crate::located::{has_object, object_counts};
 use crate::opened::Opened;
-use cf_base::Memory;
+use crate::scene::Scene;
+use cf_base::{Items, Memory};
+use cf_types::TyId;
+use std::alloc::Global;
 
 /// Whether the object of this local may stand.
 pub fn is_open(local: u32, all: &[Opened]) -> bool
@@ -103,16 +109,54 @@ pub fn put(x: Opened, all: &mut Vec<Opened>) -> Result<(), Memory>
     Ok(())
 }
 
-/// The local has an object, in this register.
-pub fn declare(local: u32, register: Option<u32>, all: &mut Vec<Opened>) -> Result<(), Memory>
-    ensures { OnOk result (all.new.items ≡ spec.declared_among local register all.old.items) }
+/// A local that has an object in this register, of whose place so much is told, and no value.
+fn begun(
+    alloc: Global,
+    local: u32,
+    register: Option<u32>,
+    counts: Items<u32>,
+) -> Result<Opened, Memory>
+    ensures { IfOk result (λ x. x ≡ walk.begun_with register counts (spec.open_one local register false)) }
 {
+    let mut x = Opened::new(alloc, local, register, false);
+    x.begin(register, counts)?;
+    Ok(x)
+}
+
+/// The local has an object of this type, in this register.
+pub fn declare(
+    x: &Scene<'_>,
+    local: u32,
+    ty: TyId,
+    register: Option<u32>,
+    all: &mut Vec<Opened>,
+) -> Result<(), Memory>
+    ensures { OnOk result (all.new.items ≡ spec.declared_among local register (type_of (tables_in x.now) ty) all.old.items) }
+{
+    let counts = object_counts(x.alloc, x.tables, ty)?;
     if is_listed(local, all.as_slice()) {
-        change_all(all, Change::Declared(local, register));
-        Ok(())
+        begin_all(x.alloc, all, local, register, counts.as_slice())
     } else {
-        put(Opened::new(local, register, false), all)
+        put(begun(x.alloc, local, register, counts)?, all)
     }
+}
+
+/// Whether a register has the place of an object that stands, a part of a local's.
+pub fn has_part(register: u32, all: &[Opened]) -> bool
+    ensures { result ≡ list_any (λ x. spec.has_object (x.places register)) all.now }
+{
+    all.iter().any(|x| has_object(x.counts(register)))
+}
+
+/// The same locals in a list of their own.
+pub fn copied(alloc: Global, all: &[Opened]) -> Result<Vec<Opened>, Memory>
+    ensures { IfOk result (λ made. made.items ≡ all.now) }
+{
+    let mut made = Vec::new(alloc);
+    for x in all {
+        made.push(x.copied(alloc)?)?;
+    }
+    Ok(made)
 }
 
 /// Whether two lists are equally long.

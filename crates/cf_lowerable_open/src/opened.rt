@@ -1,13 +1,16 @@
 //! What is told of one local.
 
-ghost use Rattle.std.specs.Prelude.{◌≡◌, ◌==◌, Some, None, false};
+ghost use Rattle.std.specs.Prelude.{◌≡◌, ◌==◌, [], Some, None, false, IfOk, OnOk};
 ghost use Rattle.cf_lower_kept.specs.Opened as spec;
 ghost use Rattle.cf_lowerable_open.specs.Lists as walk;
 
+use crate::located::{Last, Place, copied, counts_at, forget, shared, tell, unless_in};
+use cf_base::{Items, Memory};
+use std::alloc::Global;
 use std::marker::Model;
 
 /// A local that may have an object.
-#[derive(Clone, Copy, Debug)]
+#[derive(Debug, Drop)]
 pub struct Opened {
     /// Its number in its function.
     pub local: u32,
@@ -21,16 +24,19 @@ pub struct Opened {
     pub flag: Option<u32>,
     /// Whether the flag holds 1 where the object stands and 0 where it does not.
     pub is_told: bool,
+    /// What is told of the places in its object that registers have.
+    pub places: Vec<Place>,
+    /// The number that a register was set to last.
+    pub last: Option<Last>,
 }
 
 impl Model for Opened {
     ghost use Rattle.cf_lower_kept.specs.Opened.{Opened};
+    ghost use Rattle.cf_lowerable_open.specs.Located.{counts_in, last_of};
 
     ghost Value = { Opened };
 
-    ghost view = { λ x. record { local = x.local; begun = x.begun; has_value = x.has_value; stands = x.stands; flag = x.flag; is_told = x.is_told } };
-
-    ghost inverse = { λ x. record { local = x.local; begun = x.begun; has_value = x.has_value; stands = x.stands; flag = x.flag; is_told = x.is_told } };
+    ghost view = { λ x. record { local = x.local; begun = x.begun; has_value = x.has_value; stands = x.stands; flag = x.flag; is_told = x.is_told; places = counts_in x.places.items; last = last_of x.last } };
 }
 
 /// Whether this register is given.
@@ -105,7 +111,7 @@ fn as_open(left: Option<bool>, right: Option<bool>) -> bool
 
 impl Opened {
     /// A local that has an object.
-    pub fn new(local: u32, begun: Option<u32>, has_value: bool) -> Opened
+    pub fn new(alloc: Global, local: u32, begun: Option<u32>, has_value: bool) -> Opened
         ensures { result ≡ spec.open_one local begun has_value }
     {
         Opened {
@@ -115,12 +121,14 @@ impl Opened {
             stands: Some(true),
             flag: None,
             is_told: false,
+            places: Vec::new(alloc),
+            last: None,
         }
     }
 
     /// A local that has no object, with a flag.
-    pub fn awaited(local: u32, flag: u32) -> Opened
-        ensures { result ≡ record { local = local; begun = None; has_value = false; stands = Some false; flag = Some flag; is_told = false } }
+    pub fn awaited(alloc: Global, local: u32, flag: u32) -> Opened
+        ensures { result ≡ record { local = local; begun = None; has_value = false; stands = Some false; flag = Some flag; is_told = false; places = spec.no_places; last = None } }
     {
         Opened {
             local,
@@ -129,7 +137,25 @@ impl Opened {
             stands: Some(false),
             flag: Some(flag),
             is_told: false,
+            places: Vec::new(alloc),
+            last: None,
         }
+    }
+
+    /// The same in a value of its own.
+    pub fn copied(&self, alloc: Global) -> Result<Opened, Memory>
+        ensures { IfOk result (λ made. made ≡ self.now) }
+    {
+        Ok(Opened {
+            local: self.local,
+            begun: self.begun,
+            has_value: self.has_value,
+            stands: self.stands,
+            flag: self.flag,
+            is_told: self.is_told,
+            places: copied(alloc, self.places.as_slice())?,
+            last: self.last,
+        })
     }
 
     /// Whether it is this local.
@@ -167,107 +193,119 @@ impl Opened {
         is_register(self.flag, register) && (self.is_told && self.stands.is_none())
     }
 
-    /// The register gets another value.
-    pub fn overwritten(self, register: u32) -> Opened
-        ensures { result ≡ spec.overwritten register self }
+    /// What is told of the place that a register has.
+    pub fn counts(&self, register: u32) -> &[u32]
+        ensures { result.now ≡ self.now.places register }
     {
-        Opened {
-            begun: if is_register(self.begun, register) {
-                None
-            } else {
-                self.begun
-            },
-            is_told: !is_register(self.flag, register) && self.is_told,
-            ..self
+        counts_at(self.places.as_slice(), register)
+    }
+
+    /// The register gets another value, of which nothing is told.
+    pub fn overwrite(&mut self, register: u32)
+        ensures { self.new ≡ spec.overwritten register [] self.old }
+    {
+        if is_register(self.begun, register) {
+            self.begun = None;
         }
+        if is_register(self.flag, register) {
+            self.is_told = false;
+        }
+        forget(register, &mut self.places);
+        self.last = unless_in(self.last, register);
+    }
+
+    /// The register gets a place in the object, of which this is told.
+    pub fn place(&mut self, register: u32, counts: Items<u32>) -> Result<(), Memory>
+        ensures { OnOk result (self.new ≡ spec.overwritten register counts self.old) }
+    {
+        if is_register(self.begun, register) {
+            self.begun = None;
+        }
+        if is_register(self.flag, register) {
+            self.is_told = false;
+        }
+        tell(register, counts, &mut self.places)?;
+        self.last = unless_in(self.last, register);
+        Ok(())
     }
 
     /// What is still so where statements run any number of times.
-    pub fn settled(self) -> Opened
-        ensures { result ≡ spec.settled self }
+    pub fn settle(&mut self)
+        ensures { self.new ≡ spec.settled self.old }
     {
-        Opened {
-            begun: None,
-            has_value: false,
-            flag: None,
-            is_told: false,
-            ..self
-        }
+        self.begun = None;
+        self.has_value = false;
+        self.flag = None;
+        self.is_told = false;
+        self.places.truncate(0);
+        self.last = None;
     }
 
     /// This local has a value from now on.
-    pub fn valued(self, local: u32) -> Opened
-        ensures { result ≡ spec.valued local self }
+    pub fn give_value(&mut self, local: u32)
+        ensures { self.new ≡ spec.valued local self.old }
     {
         if self.local == local {
-            Opened {
-                has_value: true,
-                ..self
-            }
-        } else {
-            self
+            self.has_value = true;
         }
     }
 
-    /// The object of this local is there, in this register, and has no value yet.
-    pub fn declared(self, local: u32, register: Option<u32>) -> Opened
-        ensures { result ≡ spec.declared_in local register self }
+    /// Its object of a type is there, in this register, and has no value yet; of its own place this is told.
+    pub fn begin(&mut self, register: Option<u32>, counts: Items<u32>) -> Result<(), Memory>
+        ensures { OnOk result (self.new ≡ walk.begun_with register counts self.old) }
     {
-        if self.local == local {
-            Opened {
-                begun: register,
-                has_value: false,
-                stands: Some(true),
-                is_told: false,
-                ..self
-            }
-        } else {
-            self
+        self.begun = register;
+        self.has_value = false;
+        self.stands = Some(true);
+        self.is_told = false;
+        self.places.truncate(0);
+        match register {
+            None => Ok(()),
+            Some(register) => tell(register, counts, &mut self.places),
         }
     }
 
     /// The flag holds this number from now on.
-    pub fn told(self, register: u32, value: i64) -> Opened
-        ensures { result ≡ spec.told_by register value self }
+    pub fn tell_flag(&mut self, register: u32, value: i64)
+        ensures { self.new ≡ spec.told_by register value self.old }
     {
         if is_register(self.flag, register) && tells(self.stands, value) {
-            Opened {
-                is_told: true,
-                ..self
-            }
-        } else {
-            self
+            self.is_told = true;
         }
     }
 
+    /// The register was set to this number.
+    pub fn count(&mut self, register: u32, value: i64)
+        ensures { self.new ≡ spec.counted register value self.old }
+    {
+        self.last = Some(Last { register, value });
+    }
+
     /// Where a register holds a number that is not 0.
-    pub fn standing(self, register: u32) -> Opened
-        ensures { result ≡ spec.stands_by register self }
+    pub fn stand(&mut self, register: u32)
+        ensures { self.new ≡ spec.stands_by register self.old }
     {
         if self.goes_by(register) {
-            Opened {
-                stands: Some(true),
-                flag: None,
-                is_told: false,
-                ..self
-            }
-        } else {
-            self
+            self.stands = Some(true);
+            self.flag = None;
+            self.is_told = false;
         }
     }
 
     /// What is so on both of two ways.
-    pub fn both(&self, other: &Opened) -> Opened
-        ensures { result ≡ spec.both_one self.now other.now }
+    pub fn both(&self, alloc: Global, other: &Opened) -> Result<Opened, Memory>
+        ensures { IfOk result (λ made. made ≡ spec.both_one self.now other.now) }
     {
-        Opened {
+        Ok(Opened {
             local: self.local,
             begun: same_begun(self.begun, other.begun),
             has_value: self.has_value && other.has_value,
             stands: same_stand(self.stands, other.stands),
             flag: same_begun(self.flag, other.flag),
             is_told: self.is_told && other.is_told,
-        }
+            places: shared(alloc, self.places.as_slice(), other.places.as_slice())?,
+            last: None,
+        })
     }
 
     /// Whether it is the same local.

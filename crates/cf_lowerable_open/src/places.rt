@@ -7,12 +7,12 @@ ghost use Rattle.cf_lowerable_open.specs.Objects as objects;
 ghost use Rattle.cf_lowerable_open.specs.Views.{action_in, holding, items_of, statements_in, ways_of, where_of};
 ghost use Rattle.cf_lowerable_open.specs.Walk as spec;
 
-use crate::actions::{act, may_act, object_given};
+use crate::actions::{act, act_in, may_act, object_given};
 use crate::changes::{Change, change_all};
 use crate::ends::{Where, is_at, only_if};
 use crate::heads::Head;
 use crate::labels::{all_heads, at_label};
-use crate::lists::close_by;
+use crate::lists::{close_by, copied};
 use crate::objects::Objects;
 use crate::opened::Opened;
 use crate::scene::Scene;
@@ -43,7 +43,7 @@ pub fn stand(register: u32, here: Vec<Opened>) -> Vec<Opened>
 pub fn fall(x: &Scene<'_>, register: u32, here: &[Opened]) -> Result<Vec<Opened>, Memory>
     ensures { IfOk result (λ all. all.items ≡ definition.where_unset register here.now) }
 {
-    let mut all = Vec::from_slice(x.alloc, here)?;
+    let mut all = copied(x.alloc, here)?;
     close_by(register, &mut all);
     Ok(all)
 }
@@ -67,15 +67,6 @@ pub fn done(
     }
 }
 
-/// The register gets another value.
-fn overwrite(register: u32, here: Vec<Opened>) -> Vec<Opened>
-    ensures { result.items ≡ definition.set_in register here.items }
-{
-    let mut all = here;
-    change_all(&mut all, Change::Overwritten(register));
-    all
-}
-
 /// Behind an action whose value goes to this register.
 pub fn set(
     x: &Scene<'_>,
@@ -88,8 +79,8 @@ pub fn set(
     ensures held { OnOk result (holding g.new ≡ objects.placed (holding g.old) register (objects.object_given (action_in x.now a.now))) }
 {
     let may = may_act(x, g, a, here.as_slice());
-    let mut all = overwrite(register, here);
-    act(x, g, Some(register), a, &mut all)?;
+    let mut all = here;
+    act_in(x, g, register, a, &mut all)?;
     g.place(register, object_given(x, a))?;
     Ok(only_if(may, Where::Falls(all)))
 }
@@ -149,13 +140,6 @@ pub fn give(here: &[Opened]) -> Where
         None => Where::Away,
         Some(_) => Where::Wrong,
     }
-}
-
-/// The same list.
-fn copied(alloc: Global, here: &[Opened]) -> Result<Vec<Opened>, Memory>
-    ensures { IfOk result (λ made. made.items ≡ here.now) }
-{
-    Ok(Vec::from_slice(alloc, here)?)
 }
 
 /// The same list, if there is one.

@@ -1,13 +1,11 @@
 //! What the statements of a file stand in.
 
-use cf_classes::Classes;
-use cf_types::Types;
+use cf_lower_types::Tables;
 use std::alloc::Global;
 
 /// What the statements of a file stand in.
 #[derive(Drop)]
 pub struct Scene<'a> {
     pub alloc: Global,
-    pub types: &'a Types,
-    pub classes: &'a Classes,
+    pub tables: &'a Tables<'a>,
 }

@@ -13,6 +13,7 @@ use crate::flags::prepare;
 use crate::forgets::forget;
 use crate::heads::switch_in;
 use crate::labels::{is_before, land};
+use crate::lists::copied;
 use crate::objects::Objects;
 use crate::opened::Opened;
 use crate::places::{
@@ -197,7 +198,7 @@ fn inner(x: &Scene<'_>, all: &Items<Plain>, ways: &Ways, here: &[Opened]) -> Res
     ensures { IfOk result (λ comes. comes ≡ definition.comes_to here.now (spec.all_open (statements_in x.now all.now) objects.no_objects (ways_of ways.now) here.now)) }
 {
     let mut g = Objects::new(x.alloc);
-    let start = Vec::from_slice(x.alloc, here)?;
+    let start = copied(x.alloc, here)?;
     let place = all_open(x, all, &mut g, ways, start)?;
     Ok(comes_to(here, &place))
 }
