@@ -7,6 +7,7 @@ pub mod Holding
 pub mod KeptLaws
 pub mod ObjectLaws
 pub mod Opens
+pub mod RowLaws
 pub mod Scans
 pub mod Sides
 pub mod Steps

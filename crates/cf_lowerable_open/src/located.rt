@@ -25,6 +25,7 @@ pub struct Last {
 }
 
 /// How many elements an array has, how many each of them has, and so on, behind what is there.
+#[tactic(auto, using(crate::proofs::RowLaws::array_rows, crate::proofs::RowLaws::no_rows, crate::proofs::RowLaws::elements_below))]
 fn add_rows(tables: &Tables<'_>, id: TyId, made: &mut Items<u32>) -> Result<(), Memory>
     ensures { OnOk result (made.new ≡ made.old ++ definition.rows_of (type_of tables.now id)) }
 {
