@@ -1,7 +1,7 @@
 //! Declarations: names, specifiers, declarators, enumerations and functions. `$` stands where the rule is broken; 0 is the rule of a file that is taken.
 
 /// Names: where they are known (3.2), `main` (3.4), what is declared twice (3.1) and linkage (3.3); then orders of two of these and of others.
-pub const NAMES: [(&str, u8); 38] = [
+pub const NAMES: [(&str, u8); 41] = [
     ("int main(){return $x;}", 10),
     ("int f(){return $x;}int x;", 10),
     ("int main(){do{int w;}while($w);return 0;}", 10),
@@ -29,6 +29,9 @@ pub const NAMES: [(&str, u8); 38] = [
     ("int x;static int $x;", 8),
     ("extern int x;static char $x;", 8),
     ("int f(){return 0;}static int $f(){return 1;}", 9),
+    ("int f();static char $f();int f(){return 0;}", 8),
+    ("extern const int c;static const int $c;", 9),
+    ("int main();static int $main(){return 0;}", 11),
     ("int x;char $x=y;", 8),
     ("int x;const int $x;", 8),
     ("int x;int&$x=1;", 8),
@@ -55,7 +58,7 @@ pub const NAMES: [(&str, u8); 38] = [
 ];
 
 /// Specifiers (7.1), and their order against bounds, declarators, names and bodies.
-pub const SPECIFIERS: [(&str, u8); 20] = [
+pub const SPECIFIERS: [(&str, u8); 23] = [
     ("int $char x;", 24),
     ("long $long x;", 24),
     ("void $int*x;", 24),
@@ -74,6 +77,9 @@ pub const SPECIFIERS: [(&str, u8); 20] = [
     ("int $char x=y;", 24),
     ("int $char main(int a){return 0;}", 24),
     ("int $char f(){return y;}", 24),
+    ("int $char f()[2];", 24),
+    ("int x;int $char x;", 24),
+    ("int f();static int $char f();int f(){return 0;}", 24),
     (
         "unsigned short int x;short unsigned y;int unsigned short z;",
         0,
@@ -82,7 +88,7 @@ pub const SPECIFIERS: [(&str, u8); 20] = [
 ];
 
 /// Declarators (8.2): the operator at fault or an object of type void, then bounds; and their order against names and initialisers.
-pub const DECLARATORS: [(&str, u8); 31] = [
+pub const DECLARATORS: [(&str, u8); 32] = [
     ("void $x;", 26),
     ("int x;void$&r=x;", 26),
     ("int x;int&$*p=&x;", 26),
@@ -103,6 +109,7 @@ pub const DECLARATORS: [(&str, u8); 31] = [
     ("void a[$y];", 10),
     ("int n;int n$[n];", 19),
     ("int x;int x$[0];", 26),
+    ("int f();static int f$()[2];int f(){return 0;}", 26),
     ("int x;void $x;", 26),
     ("extern int x;static int x$[0];", 26),
     ("const int c$[0];", 26),

@@ -10,7 +10,7 @@ int*const kp=0;int&r=x;int main(){";
 pub const BEHIND: &str = "return 0;}";
 
 /// Assignments (5.17): what may not be changed, then the operator, then what is not converted.
-pub const ASSIGNMENTS: [(&str, u8); 20] = [
+pub const ASSIGNMENTS: [(&str, u8); 25] = [
     ("1$=x;", 12),
     ("a$=a;", 12),
     ("*cp$=1;", 12),
@@ -28,6 +28,11 @@ pub const ASSIGNMENTS: [(&str, u8); 20] = [
     ("e$+=1;", 25),
     ("e$+=v;", 18),
     ("e$+=p;", 13),
+    ("kp$=v;", 12),
+    ("A$=0;", 12),
+    ("kp$+=p;", 12),
+    ("c$+=p;", 12),
+    ("A$+=1;", 12),
     ("p=0;p=1-1;p=zero;p=0!=0;", 0),
     ("v=p;v=q;v=a;v=0;v=&p;", 0),
     ("e=A;e=e;e=(E)1;", 0),
@@ -102,11 +107,12 @@ pub const CHOICES: [(&str, u8); 20] = [
 ];
 
 /// Calls (5.2.2), in whole files: what is called, how many arguments it takes, then whether each matches.
-pub const CALLS: [(&str, u8); 18] = [
+pub const CALLS: [(&str, u8); 19] = [
     ("int x;int main(){return $x(1);}", 18),
     ("int x;int main(){return x($y);}", 10),
     ("int main(){return $h(y);}", 10),
     ("int main(){return $main(y);}", 11),
+    ("int main(){return $main(1);}", 11),
     ("int f(int a){return a;}int main(){return $f();}", 15),
     (
         "int f(int a){return a;}int(*p)(int)=f;int main(){return $p();}",
