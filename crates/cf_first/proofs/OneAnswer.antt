@@ -49,11 +49,21 @@ data Is (tree : FileTree) (r : Result CoreUnit Refusal) : Type 0 where
   passed : (l : Limit) → first_of_file tree ≡ elaboration.Limit l.bound l.most → r ≡ Err (passes l) → Is tree r
   ended : (core : Option CoreUnit) → Ended tree core → r ≡ of_end core → Is tree r
 
+abbrev broken_in : elaboration.First → Broken → Broken
+broken_in (elaboration.Broken rule at) d = record { rule = rule; at = at }
+broken_in (elaboration.Limit bound most) d = d
+broken_in (elaboration.Core core) d = d
+
 same_broken : (b c : Broken) → ◌≡◌ {A = elaboration.First} (elaboration.Broken b.rule b.at) (elaboration.Broken c.rule c.at) → b ≡ c
-same_broken b c e = cc
+same_broken b c e = ap (λ f. broken_in f b) e
+
+abbrev limit_in : elaboration.First → Limit → Limit
+limit_in (elaboration.Limit bound most) d = record { bound = bound; most = most }
+limit_in (elaboration.Broken rule at) d = d
+limit_in (elaboration.Core core) d = d
 
 same_limit : (l m : Limit) → ◌≡◌ {A = elaboration.First} (elaboration.Limit l.bound l.most) (elaboration.Limit m.bound m.most) → l ≡ m
-same_limit l m e = cc
+same_limit l m e = ap (λ f. limit_in f l) e
 
 module _ (tree : FileTree) (r q : Result CoreUnit Refusal) where
   clash : (x y : elaboration.First) → first_of_file tree ≡ x → first_of_file tree ≡ y → x ≡ y
