@@ -5,6 +5,8 @@ import time
 
 TOP = os.path.dirname(os.path.dirname(os.path.abspath(__file__)))
 LAUNCHER = os.path.join(TOP, "cfront")
+# the variable CFRONT names another program
+CFRONT = os.environ.get("CFRONT", LAUNCHER)
 
 
 def measured(words, told):
@@ -31,7 +33,7 @@ def go(text):
         name = os.path.join(folder, "a.C")
         with open(name, "w", encoding="ascii") as file:
             file.write(text)
-        return measured([LAUNCHER, "go", name], 2)
+        return measured([CFRONT, "go", name], 2)
 
 
 def best(text, turns):

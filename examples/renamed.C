@@ -1,4 +1,4 @@
-// A parameter may not have the name of a function: K48 at the parameter.
+// A parameter may have the name of a function, which it hides.
 int twice(int n) { return n + n; }
 int apply(int twice) { return twice + 1; }
 int main() { return apply(twice(3)); }

@@ -6,7 +6,7 @@ use Rattle.cc_whole_limits.specs.declared.limit.StartLimit.TheVariants as limit
 use Rattle.cc_whole_limits.specs.Sums.{capped}
 use Rattle.cc_whole_limits.specs.StartLimit.{most_nodes, most_frames, frames_allow, allows}
 
-nodes-test : (n : ℕ) → nat_lt most_nodes (capped n) ≡ nat_lt most_nodes n
+pub nodes-test : (n : ℕ) → nat_lt most_nodes (capped n) ≡ nat_lt most_nodes n
 nodes-test n = by (nat_lt most_nodes (capped n)) (nat_lt most_nodes n) refl refl
   where
     by : (a b : Bool) → nat_lt most_nodes (capped n) ≡ a → nat_lt most_nodes n ≡ b → a ≡ b

@@ -9,7 +9,7 @@ mod nodes;
 mod sizes;
 mod sums;
 
-pub use limit::{StartLimit, may_start};
+pub use limit::{StartLimit, may_start, passes_nodes};
 
 #[cfg(test)]
 mod tests;

@@ -1,5 +1,6 @@
-ghost use Rattle.std.specs.Prelude.{◌≡◌};
+ghost use Rattle.std.specs.Prelude.{◌≡◌, nat_lt};
 ghost use Rattle.cc_whole.specs.Plain.{items_of};
+ghost use Rattle.cc_whole_limits.specs.Nodes.{nodes_of};
 ghost use Rattle.cc_whole_limits.specs.StartLimit as spec;
 
 use crate::frames::greatest_frame;
@@ -28,6 +29,13 @@ fn allows(count: u64, frame: u64, depth: u32) -> Result<(), StartLimit>
     } else {
         Ok(())
     }
+}
+
+/// Whether a program has 2^32 tree nodes or more.
+pub fn passes_nodes(program: &CProgram) -> bool
+    ensures { result ≡ nat_lt spec.most_nodes (nodes_of (items_of program.now.items)) }
+{
+    nodes(program.items.as_slice()) > 4_294_967_295
 }
 
 /// Whether a program may run at a depth: it has fewer than 2^32 nodes, and the greatest frame of its functions times the depth is at

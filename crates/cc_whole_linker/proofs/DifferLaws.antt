@@ -1,5 +1,5 @@
 -- Shared definitions that differ, item by item.
-use Rattle.std.proofs.Common.{◌≡◌, ◌↔◌, ◌∙◌, ℕ, zero, suc, ◌<◌, Bool, true, false, ◌&&◌, IsTrue, not, List, [], ◌∷◌, length, get_or, refl, sym, subst, arith}
+use Rattle.std.proofs.Common.{◌≡◌, ◌↔◌, ◌∙◌, ℕ, zero, suc, ◌<◌, Bool, true, false, ◌&&◌, ◌⊎◌, inl, inr, IsTrue, not, List, [], ◌∷◌, length, get_or, refl, sym, subst, arith}
 use Rattle.cc_whole_link.specs.Link.{Differs}
 use Rattle.cc_whole_link.specs.Placed.{Placed, defines_named, its_name, is_shared}
 use Rattle.cc_whole_linker.specs.Rules.{DiffersFrom}
@@ -33,30 +33,27 @@ module _ (p x : Placed) (xs : List Placed) where
     differ = d.differ;
   }
 
-  pub differs_later : (DiffersFrom p x → ⊥) → Differs (x ∷ xs) p ↔ Differs xs p
-  differs_later other_one = (forth, back)
-    where
-      forth : Differs (x ∷ xs) p → Differs xs p
-      forth d = at d.stands.0 d.stands.1 d.stands.2
-        where
-          at : (k : ℕ) → k < length (x ∷ xs) → get_or (x ∷ xs) k d.other ≡ d.other → Differs xs p
-          at zero within is = absurd (other_one (subst (DiffersFrom p) (sym is) (record { same_name = d.same_name; both_shared = d.both_shared; differ = d.differ })))
-          at (suc k) within is = record {
-            other = d.other;
-            stands = (k, omega (arith, within), is);
-            same_name = d.same_name;
-            both_shared = d.both_shared;
-            differ = d.differ;
-          }
+  pub differs_behind : Differs xs p → Differs (x ∷ xs) p
+  differs_behind d = record {
+    other = d.other;
+    stands = (suc d.stands.0, omega (arith, d.stands.1), d.stands.2);
+    same_name = d.same_name;
+    both_shared = d.both_shared;
+    differ = d.differ;
+  }
 
-      back : Differs xs p → Differs (x ∷ xs) p
-      back d = record {
+  pub differs_either : Differs (x ∷ xs) p → DiffersFrom p x ⊎ Differs xs p
+  differs_either d = at d.stands.0 d.stands.1 d.stands.2
+    where
+      at : (k : ℕ) → k < length (x ∷ xs) → get_or (x ∷ xs) k d.other ≡ d.other → DiffersFrom p x ⊎ Differs xs p
+      at zero within is = inl (subst (DiffersFrom p) (sym is) (record { same_name = d.same_name; both_shared = d.both_shared; differ = d.differ }))
+      at (suc k) within is = inr (record {
         other = d.other;
-        stands = (suc d.stands.0, omega (arith, d.stands.1), d.stands.2);
+        stands = (k, omega (arith, within), is);
         same_name = d.same_name;
         both_shared = d.both_shared;
         differ = d.differ;
-      }
+      })
 
 pub differs_nowhere : (p : Placed) → Differs [] p → ⊥
 differs_nowhere p d = omega (arith, d.stands.1)

@@ -1,5 +1,5 @@
 -- The items that are kept, with one more behind.
-use Rattle.std.proofs.Common.{◌≡◌, ◌∙◌, if◌then◌else◌, Bool, true, false, List, [], ◌∷◌, ◌++◌, refl, ap, sym, append_assoc}
+use Rattle.std.proofs.Common.{◌≡◌, ◌∙◌, ℕ, if◌then◌else◌, Bool, true, false, Option, List, [], ◌∷◌, ◌++◌, refl, ap, sym, subst, append_assoc}
 use Rattle.std.specs.Prelude.{reverse}
 use Rattle.std.proofs.lemmas.List.{append-nil, reverse-append}
 use Rattle.cc_whole.specs.declared.unit.CItem.{CItem}
@@ -7,7 +7,9 @@ use Rattle.cc_whole_link.specs.Link.{repeats, kept_items}
 use Rattle.cc_whole_link.specs.Placed.{Placed}
 use Rattle.cc_whole_placed.specs.declared.placed.PlacedItem.{PlacedItem}
 use Rattle.cc_whole_placed.specs.Seen.{placed_of}
+use Rattle.cc_whole_linker.specs.Earlier.{Chained}
 use Rattle.cc_whole_linker.specs.Rules.{seen}
+use Rattle.cc_whole_linker.proofs.LastLaws.{chained-front}
 use Rattle.cc_whole_linker.proofs.SeenLaws.{seen_behind}
 
 -- what one item adds
@@ -30,6 +32,14 @@ kept_behind before (x ∷ all) i =
         ≡ (if b then kept_items (before ++ x ∷ []) all else (x.now ∷ kept_items (before ++ x ∷ []) all)) ++ one_kept (repeats (before ++ x ∷ all) i) i.now
     by true rest = rest
     by false rest = ap (λ l. x.now ∷ l) rest
+
+-- what is known of places, with one item less
+module _ (left_before left : List PlacedItem) (last : PlacedItem) (popped : left_before ≡ left ++ last ∷ []) (places : List (Option ℕ)) (known : Chained (seen left_before) places) where
+  pub with-last : Chained (seen left ++ placed_of last ∷ []) places
+  with-last = subst (λ l. Chained l places) (ap seen popped ∙ seen_behind left last) known
+
+  pub fewer-chained : Chained (seen left) places
+  fewer-chained = chained-front (seen left) (placed_of last ∷ []) places with-last
 
 module _ (left_before left : List PlacedItem) (last : PlacedItem) (kept : List CItem) (total : List CItem) (popped : left_before ≡ left ++ last ∷ [])
     (so_far : kept_items [] (seen left_before) ++ reverse kept ≡ total) where

@@ -1,6 +1,9 @@
 mod BreakLaws
 mod DifferLaws
+mod EarlierLaws
 mod FirstLaws
 mod KeptLaws
+mod LastLaws
 mod LinkLaws
+mod NameLaws
 mod SeenLaws

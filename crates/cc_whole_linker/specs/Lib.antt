@@ -1,4 +1,5 @@
 pub mod Answers
 pub mod Bytes
+pub mod Earlier
 pub mod Rules
 pub mod Start

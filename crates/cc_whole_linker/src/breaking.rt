@@ -1,10 +1,11 @@
 //! What an item breaks.
 
-ghost use Rattle.std.specs.Prelude.{◌≡◌, Option, option_map, IfOk, Some};
+ghost use Rattle.std.specs.Prelude.{◌≡◌, ◌++◌, [], ◌∷◌, Option, option_map, IfOk, Some};
 ghost use Rattle.std.specs.Option.{option_copied};
 ghost use Rattle.cc_whole_link.specs.Link as rules;
 ghost use Rattle.cc_whole_placed.specs.Seen.{placed_of};
 ghost use Rattle.cc_whole_linker.specs.Answers.{refusal_of, number};
+ghost use Rattle.cc_whole_linker.specs.Earlier.{Chained};
 ghost use Rattle.cc_whole_linker.specs.Rules as spec;
 
 use crate::defined::undefined_use;
@@ -61,16 +62,18 @@ pub(crate) fn broken_at(
     defined: &Names<'_>,
     all: &[PlacedItem<'_>],
     before: &[PlacedItem<'_>],
+    places: &[Option<usize>],
     placed: &PlacedItem<'_>,
 ) -> Result<Option<BrokenRule>, Memory>
-    requires { defined.now ≡ spec.defined_names (spec.seen all.now) }
+    requires names { defined.now ≡ spec.defined_names (spec.seen all.now) }
+    requires places { Chained (spec.seen before.now ++ placed_of placed.now ∷ []) places.now }
     ensures { IfOk result (λ b. rules.Breaks (spec.seen all.now) (spec.seen before.now) (placed_of placed.entry.now) (option_map refusal_of b)) }
 {
     let _all = all;
     let undefined = undefined_use(defined, placed.uses.as_slice());
-    let twice = second_definition(alloc, before, placed)?;
-    let differ = differs(before, placed);
-    let other_type = any_other_type(before, placed);
+    let twice = second_definition(alloc, before, places, placed)?;
+    let differ = differs(before, places, placed);
+    let other_type = any_other_type(before, places, placed);
     first_of(
         alloc,
         name_of(&placed.now),

@@ -8,18 +8,14 @@ ghost use Rattle.cc_whole_placed.specs.Seen.{placed_of};
 
 use cc_whole_placed::PlacedItem;
 use cc_whole_uses::inner_names;
-use cf_base::{Memory, Name};
+use cf_base::Memory;
+use cf_name_table::NameTable;
 use std::alloc::Global;
 
-fn is_among(name: &[u8], names: &[Name]) -> bool
+fn is_among(name: &[u8], names: &NameTable) -> bool
     ensures { result ≡ is_in names.now name.now }
 {
-    for other in names {
-        if other.as_slice() == name {
-            return true;
-        }
-    }
-    false
+    names.has(name)
 }
 
 /// The first parameter or local of an item that has the longer name of a static name of its unit.
@@ -31,7 +27,7 @@ pub(crate) fn captured<'a>(
 {
     let inner = inner_names(alloc, placed.was)?;
     for name in inner.as_slice() {
-        if is_among(name, placed.longer_names.get().as_slice()) {
+        if is_among(name, placed.longer_names.get()) {
             return Ok(Some(*name));
         }
     }

@@ -1,12 +1,14 @@
 //! Shared definitions that differ.
 
-ghost use Rattle.std.specs.Prelude.{◌≡◌, ◌↔◌, ◌&&◌, IsTrue};
+ghost use Rattle.std.specs.Prelude.{◌≡◌, ◌↔◌, ◌++◌, [], ◌∷◌, ◌&&◌, IsTrue};
 ghost use Rattle.cc_whole_link.specs.Link as rules;
 ghost use Rattle.cc_whole_link.specs.Placed as link;
 ghost use Rattle.cc_whole_placed.specs.Seen.{placed_of};
+ghost use Rattle.cc_whole_linker.specs.Earlier.{Chained};
 ghost use Rattle.cc_whole_linker.specs.Rules as spec;
 
 use crate::defined::defines_named;
+use crate::earlier::Earlier;
 use cc_whole_placed::{PlacedItem, is_shared, name_of};
 use cc_whole_same::same_item;
 
@@ -30,10 +32,16 @@ fn differs_from(placed: &PlacedItem<'_>, other: &PlacedItem<'_>) -> bool
 }
 
 /// Whether one of those before it does.
-pub(crate) fn differs(before: &[PlacedItem<'_>], placed: &PlacedItem<'_>) -> bool
+pub(crate) fn differs(
+    before: &[PlacedItem<'_>],
+    places: &[Option<usize>],
+    placed: &PlacedItem<'_>,
+) -> bool
+    requires { Chained (spec.seen before.now ++ placed_of placed.now ∷ []) places.now }
     ensures { IsTrue result ↔ rules.Differs (spec.seen before.now) (placed_of placed.entry.now) }
 {
-    for other in before {
+    let mut left = Earlier::of(placed, before, places);
+    while let Some(other) = left.next() {
         if differs_from(placed, other) {
             return true;
         }

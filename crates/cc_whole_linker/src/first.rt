@@ -7,6 +7,7 @@ ghost use Rattle.cc_whole_linker.specs.Rules as spec;
 
 use crate::breaking::broken_at;
 use crate::defined::defined_names;
+use crate::earlier::earlier_places;
 use crate::error::BrokenRule;
 use cc_whole_placed::PlacedItem;
 use cf_base::Memory;
@@ -20,8 +21,16 @@ pub(crate) fn first_broken(
     ensures { IfOk result (λ b. rules.FirstBroken (spec.seen all.now) [] (spec.seen all.now) (option_map refusal_of b)) }
 {
     let defined = defined_names(alloc, all)?;
+    let places = earlier_places(alloc, all)?;
     for (index, placed) in all.iter().enumerate() {
-        match broken_at(alloc, &defined, all, &all[..index], placed)? {
+        match broken_at(
+            alloc,
+            &defined,
+            all,
+            &all[..index],
+            places.as_slice(),
+            placed,
+        )? {
             Some(broken) => return Ok(Some(broken)),
             None => {}
         }

@@ -6,6 +6,7 @@ mod bytes;
 mod capturing;
 mod defined;
 mod differing;
+mod earlier;
 mod error;
 mod first;
 mod kept;

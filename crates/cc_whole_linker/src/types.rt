@@ -1,6 +1,6 @@
 //! Types of functions and variables, compared.
 
-ghost use Rattle.std.specs.Prelude.{◌≡◌, Some};
+ghost use Rattle.std.specs.Prelude.{◌≡◌, ◌++◌, [], ◌∷◌, Some};
 ghost use Rattle.std.specs.List.{list_any};
 ghost use Rattle.cc_whole.specs.Known.{function, object};
 ghost use Rattle.cc_whole.specs.Numbers as numbers;
@@ -9,8 +9,10 @@ ghost use Rattle.cc_whole.specs.Types as types;
 ghost use Rattle.cc_whole.specs.Valid.{agrees, named_by};
 ghost use Rattle.cc_whole_link.specs.Link as rules;
 ghost use Rattle.cc_whole_placed.specs.Seen.{placed_of};
+ghost use Rattle.cc_whole_linker.specs.Earlier.{Chained};
 ghost use Rattle.cc_whole_linker.specs.Rules.{seen};
 
+use crate::earlier::Earlier;
 use cc_whole::{CConstant, CItem, CParameter, CPrototype, CType, CVariableType};
 use cc_whole_placed::{PlacedItem, name_of};
 
@@ -110,10 +112,16 @@ fn other_type(placed: &PlacedItem<'_>, other: &PlacedItem<'_>) -> bool
 }
 
 /// Whether one of those before it does.
-pub(crate) fn any_other_type(before: &[PlacedItem<'_>], placed: &PlacedItem<'_>) -> bool
+pub(crate) fn any_other_type(
+    before: &[PlacedItem<'_>],
+    places: &[Option<usize>],
+    placed: &PlacedItem<'_>,
+) -> bool
+    requires { Chained (seen before.now ++ placed_of placed.now ∷ []) places.now }
     ensures { result ≡ list_any (rules.other_type (placed_of placed.entry.now)) (seen before.now) }
 {
-    for other in before {
+    let mut left = Earlier::of(placed, before, places);
+    while let Some(other) = left.next() {
         if other_type(placed, other) {
             return true;
         }

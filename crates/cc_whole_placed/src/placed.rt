@@ -8,6 +8,7 @@ use cc_whole::CItem;
 use cc_whole_rename::{Statics, renamed_item};
 use cc_whole_uses::uses_of_item;
 use cf_base::{Items, Memory, Name};
+use cf_name_table::NameTable;
 use cf_shared::Shared;
 use std::alloc::Global;
 
@@ -25,14 +26,14 @@ pub struct PlacedItem<'a> {
     /// Whether its name is its unit's alone.
     pub is_static: bool,
     /// The static names of its unit, as they are in the program.
-    pub longer_names: Shared<Items<Name>>,
+    pub longer_names: Shared<NameTable>,
 }
 
 /// An item of the unit with these static names, which are these in the program.
 pub(crate) fn placed<'a>(
     alloc: Global,
     statics: &Statics<'_>,
-    longer_names: &Shared<Items<Name>>,
+    longer_names: &Shared<NameTable>,
     item: &'a CItem,
 ) -> Result<PlacedItem<'a>, Memory>
     requires { longer_names.now ≡ map (link.longer statics.now.unit) statics.now.names }

@@ -6,6 +6,7 @@ use crate::placed::{PlacedItem, placed};
 use crate::statics::{longer_names, statics};
 use cc_whole::{CItem, CUnit};
 use cf_base::Memory;
+use cf_name_table::NameTable;
 use cf_shared::Shared;
 use std::alloc::Global;
 
@@ -19,7 +20,8 @@ fn add_items<'a>(
     ensures { OnOk result (map placed_of all.new.items ≡ map placed_of all.old.items ++ link.placed_items unit items.now) }
 {
     let names = statics(alloc, unit, items)?;
-    let longer = Shared::new(alloc, longer_names(alloc, unit, items)?)?;
+    let longer = NameTable::of(alloc, longer_names(alloc, unit, items)?)?;
+    let longer = Shared::new(alloc, longer)?;
     for item in items {
         all.push(placed(alloc, &names, &longer, item)?)?;
     }

@@ -29,26 +29,3 @@ last_first-take xs n h =
     let split : last_first xs ≡ last_first (drop n xs) ++ last_first (take n xs) =
     ap last_first (sym (take-append-drop n xs)) ∙ last_first-append (take n xs) (drop n xs) in
     sym (drop_at (last_first (drop n xs)) (last_first (take n xs)) (length (last_first xs) - n) long) ∙ ap (drop (length (last_first xs) - n)) (sym split)
-
-module _ (xs : List Entry) (i : ℕ) (d : Entry) (name : List ℕ) (within : i < length xs) where
-  -- the names up to an index, and one more
-  one_more : last_first (take (i + 1) xs) ≡ named_of (get_or xs i d) ∷ last_first (take i xs)
-  one_more = ap last_first (take_more xs i d within) ∙ last_first-more (take i xs) (get_or xs i d)
-
-  pub found_here : bytes_eq (get_or xs i d).name.now name ≡ true → lookup (last_first (take (i + 1) xs)) name ≡ Some (named_of (get_or xs i d)).meant
-  found_here e = ap (λ l. lookup l name) one_more ∙ by (bytes_eq (get_or xs i d).name.now name) e
-    where
-      by : (b : Bool) → b ≡ true
-          → option_map (λ (x : Named). x.meant) (if b then Some (named_of (get_or xs i d)) else find (λ (x : Named). bytes_eq x.name name) (last_first (take i xs)))
-          ≡ Some (named_of (get_or xs i d)).meant
-      by true e = refl
-      by false e = absurd (cc)
-
-  pub not_here : bytes_eq (get_or xs i d).name.now name ≡ false → lookup (last_first (take (i + 1) xs)) name ≡ lookup (last_first (take i xs)) name
-  not_here e = ap (λ l. lookup l name) one_more ∙ by (bytes_eq (get_or xs i d).name.now name) e
-    where
-      by : (b : Bool) → b ≡ false
-          → option_map (λ (x : Named). x.meant) (if b then Some (named_of (get_or xs i d)) else find (λ (x : Named). bytes_eq x.name name) (last_first (take i xs)))
-          ≡ lookup (last_first (take i xs)) name
-      by false e = refl
-      by true e = absurd (cc)

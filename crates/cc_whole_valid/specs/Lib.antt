@@ -1,5 +1,6 @@
 pub mod Checking
 pub mod CheckingItems
+pub mod Labels
 pub mod Memory
 pub mod Typing
 pub mod Walk

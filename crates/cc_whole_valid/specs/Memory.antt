@@ -1,5 +1,5 @@
 -- Names in scope and what is known, as they stand in memory.
-use Rattle.std.specs.Prelude.{List, Option, map, option_map, reverse}
+use Rattle.std.specs.Prelude.{ℕ, List, Option, map, option_map, reverse}
 use Rattle.cc_whole.specs.declared.types.CSignature.{CSignature}
 use Rattle.cc_whole.specs.Types.{signature_of}
 use Rattle.cc_whole.specs.Known.{Meant, function, object, Named}
@@ -24,6 +24,9 @@ named_of e = record { name = e.name.now; meant = meant_of e.entity }
 -- the last one stands first
 abbrev pub last_first : List Entry → List Named
 last_first entries = reverse (map named_of entries)
+
+abbrev pub names_of : List Named → List (List ℕ)
+names_of names = map (λ (n : Named). n.name) names
 
 abbrev pub type_at : Signature → CSignature
 type_at (written.Declared p) = signature_of p.now

@@ -4,6 +4,7 @@ ghost use Rattle.cc_whole_valid.specs.Memory.{meant, named_of, last_first};
 
 use cc_whole::{CPrototype, CVariableType};
 use cf_base::Memory;
+use cf_name_places::Places;
 use std::alloc::Global;
 use std::marker::Model;
 
@@ -22,20 +23,23 @@ pub struct Entry<'a> {
     pub entity: Entity<'a>,
 }
 
-/// The names in scope. The last one hides equal earlier ones.
+/// The names in scope. The last one hides equal earlier ones, and a table finds it.
 #[derive(Drop)]
 pub struct Scope<'a> {
     list: Vec<Entry<'a>>,
+    places: Places<'a>,
 }
 
 impl<'a> Model for Scope<'a> {
-    ghost use Rattle.std.specs.Prelude.{List};
+    ghost use Rattle.std.specs.Prelude.{◌≡◌, List};
     ghost use Rattle.cc_whole.specs.Known.{Named};
-    ghost use Rattle.cc_whole_valid.specs.Memory.{last_first};
+    ghost use Rattle.cc_whole_valid.specs.Memory.{last_first, names_of};
 
     ghost Value = { List Named };
 
     ghost view = { λ s. last_first s.list.items };
+
+    ghost invariant = { λ s. s.places ≡ names_of (last_first s.list.items) };
 }
 
 impl<'a> Scope<'a> {
@@ -45,6 +49,7 @@ impl<'a> Scope<'a> {
     {
         Scope {
             list: Vec::new(alloc),
+            places: Places::new(alloc),
         }
     }
 
@@ -59,22 +64,22 @@ impl<'a> Scope<'a> {
     pub fn find(&self, name: &[u8]) -> Option<Entity<'a>>
         ensures { meant result ≡ spec.lookup self.now name.now }
     {
-        let mut left = self.list.len();
-        while left > 0 {
-            left -= 1;
-            let entry = self.list[left];
-            if entry.name == name {
-                return Some(entry.entity);
+        match self.places.find(name) {
+            None => None,
+            Some(place) => {
+                let entry = self.list[place];
+                Some(entry.entity)
             }
         }
-        None
     }
 
     /// Puts a name in front of all others.
     pub fn add(&mut self, entry: Entry<'a>) -> Result<(), Memory>
         ensures { OnOk result (self.new ≡ named_of entry.entry ∷ self.old) }
     {
-        self.list.push(entry)?;
+        self.list.reserve(1)?;
+        self.places.add(entry.name)?;
+        self.list.push(entry).unwrap();
         Ok(())
     }
 
@@ -83,6 +88,7 @@ impl<'a> Scope<'a> {
         requires { len ≤ length self.old }
         ensures { self.new ≡ drop (length self.old - len) self.old }
     {
+        self.places.cut(len);
         self.list.truncate(len);
     }
 }

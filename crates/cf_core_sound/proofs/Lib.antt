@@ -5,7 +5,9 @@ pub mod Combined
 pub mod Converting
 pub mod Doing
 pub mod Finds
+pub mod Forms
 pub mod Good
+pub mod Initials
 pub mod Main
 pub mod Moments
 pub mod Names

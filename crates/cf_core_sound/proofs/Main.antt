@@ -17,7 +17,6 @@ use Rattle.cf_core.specs.Statements.{initialises}
 use Rattle.cf_core.specs.Program.{runs, static_object_of, length_of, first_state, set_constant, status_of, main_run, left, destroy_static, resumed, destroy_statics, ended_run, run_outcome, Mean}
 use Rattle.cf_core.specs.Typing.{of_result, is_function}
 use Rattle.cf_core.specs.Typed.{typing}
-use Rattle.cf_core.specs.Valid.{Body}
 use Rattle.cf_core_typed.proofs.Same.{type-equal}
 use Rattle.cf_core_sound.specs.Proper.{is_proper, Whole, shape}
 use Rattle.cf_core_sound.specs.Values.{IsFunction, IsOf, Fit}
@@ -33,7 +32,7 @@ use Rattle.cf_core_sound.proofs.Access.{zero-of}
 use Rattle.cf_core_sound.proofs.Names.{static-at, some-there, static-place}
 use Rattle.cf_core_sound.proofs.Calling.{run-well}
 use Rattle.cf_core_sound.proofs.Scopes.{no-destructor}
-use Rattle.cf_core_sound.proofs.Doing.{initial-well}
+use Rattle.cf_core_sound.proofs.Initials.{initial-well}
 use Rattle.cf_core_sound.proofs.Runs.{at-all, statics-around, bodies-sound}
 use Rattle.cf_core_sound.proofs.Wells.{well-then, well-next, well-gives, well-as, well-changed}
 
@@ -95,9 +94,6 @@ module _ (fs : List Function) (xs : List Static) (ks : List Setting) where
 
   -- ---- constants
 
-  abbrev nobody : Body
-  nobody = record { scope = outside P; parameters = 0; result = void; is_main = false }
-
   abbrev type_found : Option Static → SourceType
   type_found None = void
   type_found (Some x) = x.type
@@ -130,7 +126,7 @@ module _ (fs : List Function) (xs : List Static) (ks : List Setting) where
               (well-as P [] u (changed (λ s. record s { reached = x.object ∷ s.reached })) (well-changed P [] u (λ s. record s { reached = x.object ∷ s.reached }) (reached-behind P [] u b.sound (x.object ∷ u.reached))) (λ _ v c e. tt)) (λ _ v c q.
               let there = c.sound.statics i at.object at.there in
               well-next P [] {Q = λ _ u. Unit {0}} v (full_expression again P (settled [] (root i) (value again P x.start (Some (root i))))) (finish_static P (static_type P x.object) i)
-              (initial-well again fs xs ks [] nobody around bodies v at.object.type i x.start c.sound (record { below = there.0; is = there.1 }) so.0 second.0
+              (initial-well again fs xs ks [] (outside P) around bodies v at.object.type (root i) x.start c.sound (record { below = there.0; is = there.1 }) so.0 second.0
               (subst (λ t. (typing (outside P) x.start).start t ≡ true) type second.1)) (λ _ w d q.
               finish-well w (static_type P x.object) i d.sound))).by w bytes;
         }))

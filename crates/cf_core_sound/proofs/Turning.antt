@@ -1,5 +1,5 @@
 -- Loops, labels, and all statements: from a sound moment none is malformed, and each ends as it may.
-use Rattle.std.proofs.Common.{◌≡◌, ℕ, zero, suc, nat_le, Bool, true, false, ◌&&◌, ◌||◌, not, List, ℤ, inl, refl, sym, subst, true≢false}
+use Rattle.std.proofs.Common.{◌≡◌, nat_le, Bool, true, false, ◌&&◌, ◌||◌, not, List, ℤ, inl, refl, sym, subst, true≢false}
 use Rattle.std.specs.Prelude.{None, slice_get, int_le}
 use Rattle.cf_base.proofs.Tests.{both}
 use Rattle.cf_core.specs.declared.operators.LoopForm.{LoopForm}
@@ -7,7 +7,7 @@ use Rattle.cf_core.specs.Types.{SourceType}
 use Rattle.cf_core.specs.Core as core
 use Rattle.cf_core.specs.Core.{Core, Cores, MaybeCore, no_temporary, local_temporary, static_temporary, absent, given, Function, Static}
 use Rattle.cf_core.specs.Store.{Nothing}
-use Rattle.cf_core.specs.Run.{State, Act, ◌>>=◌, ◌>>◌, gives, tick, when, frame_changed, lists_in_scope}
+use Rattle.cf_core.specs.Run.{State, Act, ◌>>=◌, gives, when, frame_changed, lists_in_scope}
 use Rattle.cf_core.specs.Access.{using, number_of}
 use Rattle.cf_core.specs.Calls.{Program, Setting, Flow, Falls, Breaks, Continues, Returns, Again, turn, full_expression, in_scope}
 use Rattle.cf_core.specs.Objects.{new_local}
@@ -18,19 +18,16 @@ use Rattle.cf_core.specs.Typed.{typing}
 use Rattle.cf_core.specs.Valid.{Body, fits, fits_maybe, all_fit, labelled_fit, condition_fits, expression_fits, is_label, has_label, initialises_local, any_initialises, labels_differ, passes_none, is_complete}
 use Rattle.cf_core_sound.specs.Proper.{is_proper}
 use Rattle.cf_core_sound.specs.States.{Sound}
-use Rattle.cf_core_sound.specs.Well.{Ends, Well}
+use Rattle.cf_core_sound.specs.Well.{Well}
 use Rattle.cf_core_sound.specs.Simple.{is_simple}
 use Rattle.cf_core_sound.specs.Statements.{is_object, is_simple_maybe, is_simple_statement, is_simple_inner, are_simple_statements, are_simple_cases, EndsWell, Turns}
 use Rattle.cf_core_sound.specs.Calls.{Bodies, Around, classless}
 use Rattle.cf_core_sound.proofs.Typings.{integer-number, integer-told}
 use Rattle.cf_core_sound.proofs.Steps.{solid-integer, well-using}
 use Rattle.cf_core_sound.proofs.Scopes.{full-well, scope-well}
-use Rattle.cf_core_sound.proofs.Wells.{well-then, well-next, well-gives, well-when}
-use Rattle.cf_base.specs.World.{World, Went, spend_of}
-use Rattle.cf_core.specs.Run.{Gives}
-use Rattle.cf_core_sound.specs.Well.{OfBytes}
-use Rattle.cf_core_sound.proofs.Moments.{behind-self}
-use Rattle.cf_core_sound.proofs.Doing.{fits-stay, no-test, three, four, local-there, val, ends-stay, given-holds, holds-well, alone-well, falls, full-does, new-well, listed-well, declare-does, give-well}
+use Rattle.cf_core_sound.proofs.Wells.{well-then, well-next, well-gives, well-when, well-tick}
+use Rattle.cf_core_sound.proofs.Initials.{no-test, three, local-there, val, new-well, listed-well}
+use Rattle.cf_core_sound.proofs.Doing.{fits-stay, four, ends-stay, given-holds, holds-well, alone-well, falls, full-does, declare-does, give-well}
 
 or-second : (a b : Bool) → b ≡ true → (a || b) ≡ true
 or-second true b e = refl
@@ -59,7 +56,7 @@ module _ (again : Again) (fs : List Function) (xs : List Static) (ks : List Sett
   number-well e s ok k h =
       well-then P L s (full_expression again P (using (value again P e None))) number_of
       (full-well again fs xs ks inits L s (using (value again P e None)) h (fits-stay again fs xs ks inits f around bodies (typing S e)) (λ u d.
-      well-using P L u (typing S e) (value again P e None) ((val again fs xs ks inits f around bodies e ok None).by u d.sound (integer-told (typing S e) k)) (solid-integer P L (typing S e) k))) (λ v u d g.
+      well-using P L u (typing S e) (value again P e None) ((val again fs xs ks inits f.scope around bodies e ok None).by u d.sound (integer-told (typing S e) k)) (solid-integer P L (typing S e) k))) (λ v u d g.
       let n = integer-number P u (typing S e) v k g in
       subst (λ x. Well P L u (λ z u. Unit {0}) (number_of x)) (sym n.1) (well-gives P L u n.0 d.sound tt))
 
@@ -99,7 +96,7 @@ module _ (again : Again) (fs : List Function) (xs : List Static) (ks : List Sett
         → is_simple_statement P S (core.loop how t e body) ≡ true → fits f b c (core.loop how t e body) ≡ true
         → ((u : State) → Sound P L u → Well P L u (EndsWell P f.result true true) (does again P body))
         → Well P L s (End b c) (does again P (core.loop how t e body))
-    loop-well b c how t e body s h ok k inner = ticked s h (λ u h. by_form (tests_first how) u h)
+    loop-well b c how t e body s h ok k inner = well-tick P L s true _ h (λ u d. by_form (tests_first how) u d.sound)
       where
         simple : (is_simple_maybe P S t ≡ true) × ((is_simple_maybe P S e && is_simple_statement P S body) ≡ true)
         simple = both (is_simple_maybe P S t) (is_simple_maybe P S e && is_simple_statement P S body) ok
@@ -109,13 +106,6 @@ module _ (again : Again) (fs : List Function) (xs : List Static) (ks : List Sett
 
         step_fits : expression_fits f e ≡ true
         step_fits = (three (condition_fits f t) (expression_fits f e) (fits f true true body) k).1
-
-        ticked : {A : Type 0} {Q : A → State → Type 0} {act : Act A} (s : State) → Sound P L s → ((u : State) → Sound P L u → Well P L u Q act) → Well P L s Q (tick >> act)
-        ticked {Q = Q} {act = act} s h k = well-next P L {Q = Done} s tick act (record { by = λ w bytes. by_ticks w bytes w.ticks }) (λ _ u d q. k u d.sound)
-          where
-            by_ticks : (w : World) → OfBytes w.input → (n : ℕ) → Ends P L s Done (spend_of n w (λ w. Went (Gives tt s) w))
-            by_ticks w bytes zero = record { by = tt }
-            by_ticks w bytes (suc n) = record { by = (behind-self P L s h, tt, bytes) }
 
         again_well : (u : State) → Sound P L u → Well P L u (End b c) (again (turn (core.loop how t e body)))
         again_well u h = turns.by (core.loop how t e body) ok b c k u h
@@ -155,7 +145,7 @@ module _ (again : Again) (fs : List Function) (xs : List Static) (ks : List Sett
           let object = both (is_proper t) (not (is_function t)) parts.0 in
           let typed = four (nat_le f.parameters i) (same_type (slice_get L i) t) (is_complete S.classes t) ((typing S core.blank).start t) k in
           let there = local-there (slice_get L i) t typed.1 in
-          well-then P L s (new_local i t) (λ o. frame_changed (lists_in_scope o)) (new-well again fs xs ks inits f around bodies s i t there.0 h object.0 there.1 there.2) (λ o u d at. listed-well again fs xs ks inits f around bodies u o d.sound)
+          well-then P L s (new_local i t) (λ o. frame_changed (lists_in_scope o)) (new-well again fs xs ks inits f.scope around bodies s i t there.0 h object.0 there.1 there.2) (λ o u d at. listed-well again fs xs ks inits f.scope around bodies u o d.sound)
       passes-well b c (core.sequence es) s ok k n h = passes-all b c es s ok k n h
       passes-well b c (core.declare i t e) s ok k n h = absurd (true≢false n)
       passes-well b c e s ok k n h = well-gives P L s tt h tt

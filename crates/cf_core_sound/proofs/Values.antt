@@ -24,6 +24,7 @@ use Rattle.cf_core_sound.specs.Calls.{Bodies, Around, classless}
 use Rattle.cf_core_sound.proofs.Shapes.{function-shape, whole-tested}
 use Rattle.cf_core_sound.proofs.Moments.{fits-later, stands-later}
 use Rattle.cf_core_sound.proofs.Access.{Target, well-declared}
+use Rattle.cf_core_sound.proofs.Forms.{keeps-typed}
 use Rattle.cf_core_sound.proofs.Good.{Good, good}
 use Rattle.cf_core_sound.proofs.Typings.{allowed-told, fits-place, fits-allowed}
 use Rattle.cf_core_sound.proofs.Steps.{Solid, solid-place, solid-value, well-using}
@@ -161,7 +162,7 @@ module _ (again : Again) (fs : List Function) (xs : List Static) (ks : List Sett
     value-well (core.convert t e) ok told into s h =
         let parts = both (is_whole t) (keeps_functions P scope t e && is_simple P scope e) ok in
         let inner = both (keeps_functions P scope t e) (is_simple P scope e) parts.1 in
-        convert-well P scope L t (typing scope e) (value again P e None) s h (G e inner.1) inner.0 (record { by = λ s h told. value-well e inner.1 told None s h }) told
+        convert-well P scope L t (typing scope e) (value again P e None) s h (G e inner.1) (keeps-typed P scope t e inner.1 inner.0) (record { by = λ s h told. value-well e inner.1 told None s h }) told
     value-well (core.operate o k a b) ok told into s h =
         let parts = both (is_simple P scope a) (is_simple P scope b) ok in
         operate-well P scope L o k (typing scope a) (typing scope b) (value again P a None) (value again P b None) s h (record { by = λ s h told. value-well a parts.0 told None s h }) (record { by = λ s h told. value-well b parts.1 told None s h }) told

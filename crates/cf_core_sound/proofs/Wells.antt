@@ -1,12 +1,13 @@
 -- Acts that never are malformed, one after another.
-use Rattle.std.proofs.Common.{◌≡◌, ℕ, Bool, true, false, List, refl}
+use Rattle.std.proofs.Common.{◌≡◌, ℕ, zero, suc, Bool, true, false, List, refl}
 use Rattle.std.specs.Prelude.{Option, Some, None}
-use Rattle.cf_base.specs.World.{Ran, Went, Stops, and_then}
+use Rattle.cf_base.specs.World.{World, Ran, Went, Stops, and_then, spend_of}
 use Rattle.cf_core.specs.Types.{SourceType}
 use Rattle.cf_core.specs.Run.{State, Did, Gives, Exits, Malformed, Act, onward, ◌>>=◌, ◌>>◌, gives, undefined, state, changed, need, valid, some_or, when}
 use Rattle.cf_core.specs.Calls.{Program}
+use Rattle.cf_core.specs.Objects.{one_tick}
 use Rattle.cf_core_sound.specs.States.{Sound, Later, Behind}
-use Rattle.cf_core_sound.specs.Well.{Ends, Well}
+use Rattle.cf_core_sound.specs.Well.{OfBytes, Ends, Well}
 use Rattle.cf_core_sound.proofs.Moments.{behind-self, behind-then}
 
 module _ (P : Program) (locals : List SourceType) where
@@ -73,3 +74,18 @@ module _ (P : Program) (locals : List SourceType) where
   pub well-when : {A : Type 0} {R : A → State → Type 0} (s : State) (b : Bool) (x y : Act A) → (b ≡ true → Well P locals s R x) → (b ≡ false → Well P locals s R y) → Well P locals s R (when b x y)
   well-when s true x y h k = h refl
   well-when s false x y h k = k refl
+
+  abbrev Spent : Unit {0} → State → Type 0
+  Spent = λ _ t. Unit {0}
+
+  -- behind a tick that is spent, or none
+  pub well-tick : {A : Type 0} {R : A → State → Type 0} (s : State) (b : Bool) (next : Act A) → Sound P locals s → ((t : State) → Behind P locals s t → Well P locals t R next) → Well P locals s R (one_tick b >> next)
+  well-tick s b next h k = well-next {Q = Spent} s (one_tick b) next (spent b) (λ _ t d q. k t d)
+    where
+      by_ticks : (w : World) → OfBytes w.input → (n : ℕ) → Ends P locals s Spent (spend_of n w (λ w. Went (Gives tt s) w))
+      by_ticks w bytes zero = record { by = tt }
+      by_ticks w bytes (suc n) = record { by = (behind-self P locals s h, tt, bytes) }
+
+      spent : (b : Bool) → Well P locals s Spent (one_tick b)
+      spent true = record { by = λ w bytes. by_ticks w bytes w.ticks }
+      spent false = well-gives s tt h tt

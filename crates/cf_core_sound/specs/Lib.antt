@@ -1,4 +1,5 @@
 pub mod Calls
+pub mod Forms
 pub mod Laws
 pub mod Programs
 pub mod Proper

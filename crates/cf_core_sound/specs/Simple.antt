@@ -6,8 +6,8 @@ use Rattle.cf_core.specs.Core.{Core, Cores, no_temporary, absent}
 use Rattle.cf_core.specs.Places.{is_reference}
 use Rattle.cf_core.specs.Calls.{Program, is_library, function_named}
 use Rattle.cf_core.specs.Objects.{static_number}
-use Rattle.cf_core.specs.Typing.{Scope, is_function, pointed}
-use Rattle.cf_core.specs.Typed.{typing}
+use Rattle.cf_core.specs.Typing.{Scope, is_function}
+use Rattle.cf_core_sound.specs.Forms.{points, form}
 use Rattle.cf_core_sound.specs.Proper.{most, is_proper}
 use Rattle.cf_core_sound.specs.Values.{library_type}
 
@@ -48,9 +48,9 @@ abbrev pub function_fits : Program → Name → SourceType → Bool
 function_fits P name t = has_function P name && library_fits name t
 
 module _ (P : Program) (scope : Scope) where
-  -- no pointer to a function becomes one to void
+  -- no pointer to a function becomes one to void, by the form of what is converted
   abbrev pub keeps_functions : SourceType → Core → Bool
-  keeps_functions t e = not (leads_to_void (plain t) && leads_to_function (pointed (typing scope e).type))
+  keeps_functions t e = not (leads_to_void (plain t) && leads_to_function (points (form scope.locals e)))
 
   abbrev mutual
     pub is_simple : Core → Bool

@@ -1,6 +1,7 @@
 -- The statements whose soundness is told, and how they end.
-use Rattle.std.specs.Prelude.{◌≡◌, Bool, true, false, ◌&&◌, ◌||◌, not}
+use Rattle.std.specs.Prelude.{◌≡◌, Bool, true, false, ◌&&◌, ◌||◌, not, List, [], ◌∷◌}
 use Rattle.cf_core.specs.Types.{SourceType}
+use Rattle.cf_core.specs.Classes.{Class}
 use Rattle.cf_core.specs.Core as core
 use Rattle.cf_core.specs.Core.{Core, Cores, MaybeCore, local_temporary, absent, given}
 use Rattle.cf_core.specs.Run.{State}
@@ -17,6 +18,11 @@ use Rattle.cf_core_sound.specs.Calls.{IsGiven}
 abbrev pub is_object : SourceType → Bool
 is_object t = is_proper t && not (is_function t)
 
+-- whether no class is there
+abbrev pub has_none : List Class → Bool
+has_none [] = true
+has_none (c ∷ classes) = false
+
 module _ (P : Program) (scope : Scope) where
   -- an expression statement: nothing, or a simple expression
   abbrev pub is_simple_start : Core → Bool
@@ -26,12 +32,21 @@ module _ (P : Program) (scope : Scope) where
   is_simple_maybe absent = true
   is_simple_maybe (given e) = is_simple P scope e
 
-  -- the initialiser of a local: nothing, zeros, a value, or the temporary that a reference binds
-  abbrev pub is_simple_initial : Core → Bool
-  is_simple_initial core.zeros = true
-  is_simple_initial core.blank = true
-  is_simple_initial (core.bind (local_temporary i t) e) = is_whole t && (not (is_function t) && is_simple P scope e)
-  is_simple_initial e = is_simple P scope e
+  -- The initialiser of a local or an element: nothing, zeros, characters, a value, the temporary that a reference binds, one for each element, or a list. A
+  -- list is an array's, since no class is there.
+  abbrev mutual
+    pub is_simple_initial : Core → Bool
+    is_simple_initial core.zeros = true
+    is_simple_initial core.blank = true
+    is_simple_initial (core.string bytes) = true
+    is_simple_initial (core.each e) = is_simple_initial e
+    is_simple_initial (core.list es rest) = has_none scope.classes && (are_simple_initials es && is_simple_initial rest)
+    is_simple_initial (core.bind (local_temporary i t) e) = is_whole t && (not (is_function t) && is_simple P scope e)
+    is_simple_initial e = is_simple P scope e
+
+    pub are_simple_initials : Cores → Bool
+    are_simple_initials core.none = true
+    are_simple_initials (core.more e es) = is_simple_initial e && are_simple_initials es
 
   abbrev mutual
     pub is_simple_statement : Core → Bool

@@ -1,5 +1,5 @@
 -- A valid file of built forms that is sound is, joined alone, a sound program.
-use Rattle.std.proofs.Common.{◌≡◌, ℕ, zero, suc, Bool, true, false, cond, ◌&&◌, ◌||◌, not, List, [], ◌∷◌, ◌++◌, map, filter, length, ap, refl, sym, ◌∙◌, subst}
+use Rattle.std.proofs.Common.{◌≡◌, ℕ, zero, suc, ◌+◌, Bool, true, false, cond, ◌&&◌, ◌||◌, not, List, [], ◌∷◌, ◌++◌, map, filter, length, ap, refl, sym, ◌∙◌, subst}
 use Rattle.std.specs.Prelude.{Option, Some, None, is_some, find, slice_get, bytes_eq, codes}
 use Rattle.std.specs.List.{list_any, list_all}
 use Rattle.std.proofs.lemmas.List.Folds.{list_any-append}
@@ -23,7 +23,7 @@ use Rattle.cf_core_sound.specs.Calls.{frame_types}
 use Rattle.cf_core_sound.specs.Programs as programs
 use Rattle.cf_core_sound.specs.Programs.{in_program, is_sound_function, is_sound_static, outside, is_sound_setting, is_main, is_sound_program}
 use Rattle.cf_core_sound.proofs.Runs.{at-all}
-use Rattle.cf_sequence.specs.Built.{is_chain, is_statement, declares_last, is_none, is_plain_role, is_body, is_built_function, is_built_static, is_constant_start, is_element, is_held, has_mark, is_built_file}
+use Rattle.cf_sequence.specs.Built.{is_chain, is_statement, arms_fit, is_none, is_plain_role, is_body, is_built_function, is_built_static, is_constant_start, is_element, is_held, has_mark, is_built_file}
 use Rattle.cf_sequence.specs.Statements.{type_of_static, binds}
 use Rattle.cf_sequence.proofs.Constants.{constant-element, something-constant, by-set, bound-binds}
 use Rattle.cf_file_sound.specs.Files.{alone, is_sound_tree, is_sound_body, is_sound_object, stands_for_main, is_sound_file}
@@ -94,8 +94,8 @@ module _ (functions : List Function) (statics : List Static) where
         let takes_none : Bool = not (bytes_eq f.name (codes "__main")) || is_none (parameters f.type) in
         let b1 = both (is_plain_role f.role) (is_chain f.type && (takes_none && is_body f)) built in
         let b2 = both (is_chain f.type) (takes_none && is_body f) b1.1 in
-        let b3 = both (not (is_class (result f.type))) (is_statement m f.body && declares_last true f.body) (both takes_none (is_body f) b2.1).1 in
-        let formed = (both (is_statement m f.body) (declares_last true f.body) b3.1).0 in
+        let b3 = both (not (is_class (result f.type))) (is_statement m f.body && arms_fit (m + length f.locals) f.body) (both takes_none (is_body f) b2.1).1 in
+        let formed = (both (is_statement m f.body) (arms_fit (m + length f.locals) f.body) b3.1).0 in
         let complete : Bool = list_all (is_complete []) (frame_types f) in
         let start : Bool = is_function f.type && role_fits [] (class_of_role f.role) in
         let v1 = both (start && complete && result_fits [] (result f.type)) (body_fits body f.role f.body) fit in
@@ -110,7 +110,7 @@ module _ (functions : List Function) (statics : List Static) where
         (all_of (simply.is_chain f.type) (are_objects && (simple && fits_there)) b2.0
         (all_of are_objects (simple && fits_there) (objects [] (frame_types f) s1.0 whole)
         (all_of simple fits_there
-        (statement file r P by_other_names (has functions statics) (serves functions statics library) body whole m false false f.body formed s1.1 fitting)
+        (statement file r P by_other_names (has functions statics) (serves functions statics library) body refl whole m false false f.body formed s1.1 fitting)
         (ap (λ b. let g : Body = record (there r body by_other_names) { is_main = b } in fits g false false (renamed r f.body)) (stays f.name)
         ∙ same-fits r body by_other_names m false false f.body formed ∙ fitting))))
 
@@ -173,7 +173,7 @@ module _ (functions : List Function) (statics : List Static) where
             let starts = (typing (outside P) (renamed r x.start)).start (static_type P (r x.name)) in
             all_of (has_object P (r x.name)) (simple && starts) named
             (all_of simple starts
-            (initial file r P by_other_names (has functions statics) (serves functions statics library) (outside (alone file)) 0 x.type x.type x.start
+            (initial file r P by_other_names (has functions statics) (serves functions statics library) (outside (alone file)) refl 0 x.type x.type x.start
             (or-left (is_element x.type x.start) (is_held 0 x.start) element) good.1 refl begins)
             (ap (λ t. (typing (outside P) (renamed r x.start)).start t) (joined-type statics statics-differ unmarked i x at own-built.1 r apart)
             ∙ ap (λ y. y.start x.type) (same-element r (outside (alone file)) by_other_names x.type x.start element) ∙ begins))

@@ -94,9 +94,9 @@ module _ (r : Name → Name) where
           ap (λ x. nat_le f.parameters i && same_type (slice_get f.scope.locals i) t && is_complete f.scope.classes t && x.start t)
           (same-begins i t e (is_element t e) refl (both (nat_le m i) (is_element t e || is_held i e) ok).1)
       same-fits m b c (core.branch x s o) ok =
-          let p = both (is_value x) (is_statement m s && is_statement_or m o) ok in
-          let q = both (is_statement m s) (is_statement_or m o) p.1 in
-          ap₂ (λ u v. u && v) (ap₂ (λ u v. u && v) (ap is_condition (same-typing x p.0)) (same-fits m b c s q.0)) (same-or m b c o q.1)
+          let p = both (is_value x) (is_statement m s && is_statement_or (next_local m s) o) ok in
+          let q = both (is_statement m s) (is_statement_or (next_local m s) o) p.1 in
+          ap₂ (λ u v. u && v) (ap₂ (λ u v. u && v) (ap is_condition (same-typing x p.0)) (same-fits m b c s q.0)) (same-or (next_local m s) b c o q.1)
       same-fits m b c (core.loop how x e s) ok =
           let p = both (built.is_condition x) (built.is_condition e && is_statement m s) ok in
           let q = both (built.is_condition e) (is_statement m s) p.1 in

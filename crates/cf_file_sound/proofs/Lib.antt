@@ -1,7 +1,8 @@
 mod Files
 mod Fitting
+mod Formed
 mod Joined
-mod Lists
+pub mod Lists
 mod Meaning
 mod Names
 mod Objects

@@ -1,16 +1,19 @@
--- Files of which the laws speak, and files of built forms that are valid and yet not sound, since they are malformed or of forms that are left out.
+-- Files of which the laws speak, and files of built forms that are valid and yet not sound, since they are malformed.
 use Rattle.std.proofs.Common.{◌≡◌, ℕ, Bool, true, false, List, [], ◌∷◌, refl}
 use Rattle.std.specs.Prelude.{None, codes}
 use Rattle.cf_base.specs.declared.kind.Kind.TheVariants.{Char}
 use Rattle.cf_core.specs.Types.{SourceType, void, integer, pointer, reference, array, gives, const}
-use Rattle.cf_core.specs.Core.{Core, plain_function, Function, Static, CoreFile, no_temporary, none, absent, local, function, static_object, read, convert, from_void, call, string, bind, zeros, full, declare}
+use Rattle.cf_core.specs.Core.{Core, plain_function, Function, Static, CoreFile, no_temporary, none, absent, local, function, static_object, read, decay, index, convert, from_void, call, list, string, bind, zeros, full, declare}
 use Rattle.cf_core.specs.Valid.{valid_file}
-use Rattle.cf_core.proofs.Sample.{int, in_block, main_of, function_of, returns, num, add, put_digit, value_of, set, called}
+use Rattle.cf_core.proofs.Sample.{int, in_block, listed, main_of, function_of, static_of, returns, num, add, put_digit, value_of, set, called}
 use Rattle.cf_sequence.specs.Built.{is_built_file}
 use Rattle.cf_file_sound.specs.Files.{is_sound_file}
 
 abbrev file : List Function → List Static → CoreFile
 file fs xs = record { classes = []; functions = fs; statics = xs }
+
+abbrev chars : SourceType
+chars = array (integer Char) 3
 
 -- it is valid, of built forms, and sound or not
 record Is (sound : Bool) (fs : List Function) (xs : List Static) : Type 0 where
@@ -68,6 +71,22 @@ const_reference = record { valid = refl; built = refl; is = refl }
 references_in_array : Is false (main_as (array (reference int) 1 ∷ []) (declare 0 (array (reference int) 1) zeros ∷ []) ∷ []) []
 references_in_array = record { valid = refl; built = refl; is = refl }
 
--- a string as an initialiser, which is left out
-string_initialiser : Is false (main_as (array (integer Char) 3 ∷ []) (declare 0 (array (integer Char) 3) (string (97 ∷ 98 ∷ 0 ∷ [])) ∷ []) ∷ []) []
-string_initialiser = record { valid = refl; built = refl; is = refl }
+-- int main(){char s[3]="ab";return s[0];}
+a_string : Is true (main_as (chars ∷ []) (declare 0 chars (string (97 ∷ 98 ∷ 0 ∷ [])) ∷ returns (convert int (read (index (decay (local 0)) (num 0)))) ∷ []) ∷ []) []
+a_string = record { valid = refl; built = refl; is = refl }
+
+-- int main(){int a[3][2]={{1},{2,3}};return a[1][0];}
+nested_lists : Is true (main_as (array (array int 2) 3 ∷ []) (declare 0 (array (array int 2) 3) (list (listed (list (listed (num 1 ∷ [])) zeros ∷ list (listed (num 2 ∷ num 3 ∷ [])) zeros ∷ [])) zeros)
+    ∷ returns (read (index (decay (index (decay (local 0)) (num 1))) (num 0))) ∷ []) ∷ []) []
+nested_lists = record { valid = refl; built = refl; is = refl }
+
+abbrev strings : Static
+strings = record (static_of (codes "s") (array chars 3)) { start = list (listed (string (97 ∷ 98 ∷ 0 ∷ []) ∷ string (99 ∷ 0 ∷ []) ∷ [])) zeros }
+
+-- char s[3][3]={"ab","c"};int main(){return s[1][0];}
+a_static_array : Is true (main_of (returns (convert int (read (index (decay (index (decay (static_object (codes "s") (array chars 3))) (num 1))) (num 0)))) ∷ []) ∷ []) (strings ∷ [])
+a_static_array = record { valid = refl; built = refl; is = refl }
+
+-- an element that calls what is not there
+unknown_name_in_list : Is false (main_as (array int 2 ∷ []) (declare 0 (array int 2) (list (listed (called (codes "g__Fv") [] int [] ∷ [])) zeros) ∷ []) ∷ []) []
+unknown_name_in_list = record { valid = refl; built = refl; is = refl }

@@ -4,7 +4,7 @@ use Rattle.std.specs.Prelude.{slice_get}
 use Rattle.std.specs.List.{list_all}
 use Rattle.std.proofs.lemmas.List.Folds.{list_all-append}
 use Rattle.cf_base.proofs.Tests.{both, all_of}
-use Rattle.cf_core.specs.Types.{Name, SourceType, void, integer, enumeration, class, pointer, reference, array, takes, gives, data_member, function_member, const, result, plain, is_class, same_but_const}
+use Rattle.cf_core.specs.Types.{Name, SourceType, void, integer, enumeration, class, pointer, reference, array, takes, gives, data_member, function_member, const, result, plain, element, is_class, same_but_const}
 use Rattle.cf_core.specs.Classes.{Class}
 use Rattle.cf_core.specs.Core as core
 use Rattle.cf_core.specs.Core.{Core, Cores, MaybeCore, Static, CoreFile, no_temporary, local_temporary, none, absent, given}
@@ -12,18 +12,20 @@ use Rattle.cf_core.specs.Places.{is_reference}
 use Rattle.cf_core.specs.Nodes.{nodes, nodes_all, nodes_maybe}
 use Rattle.cf_core.specs.Calls.{Program}
 use Rattle.cf_core.specs.Joined.{renamed, renamed_all, renamed_maybe}
-use Rattle.cf_core.specs.Typing.{Scope, Typing, is_function, is_integer, pointed, same_type}
+use Rattle.cf_core.specs.Typing.{Scope, Typing, is_function, is_integer, same_type}
 use Rattle.cf_core.specs.Typed.{typing, binds}
 use Rattle.cf_core.specs.Valid.{Body, is_complete, is_label, labels_differ, passes_none, fits, fits_maybe, all_fit, labelled_fit, condition_fits, expression_fits}
 use Rattle.cf_core.specs.Typing as typed
+use Rattle.cf_core_sound.specs.Forms.{points}
 use Rattle.cf_core_sound.specs.Proper.{most, is_proper}
 use Rattle.cf_core_sound.specs.Simple.{is_whole, is_called_type, leads_to_void, leads_to_function, has_object, function_fits, keeps_functions, is_simple, are_simple}
 use Rattle.cf_core_sound.specs.Simple as simply
-use Rattle.cf_core_sound.specs.Statements.{is_object, is_simple_start, is_simple_maybe, is_simple_initial, is_simple_statement, is_simple_inner, are_simple_statements, are_simple_cases}
+use Rattle.cf_core_sound.specs.Statements.{has_none, is_object, is_simple_start, is_simple_maybe, is_simple_initial, are_simple_initials, is_simple_statement, is_simple_inner, are_simple_statements, are_simple_cases}
 use Rattle.cf_sequence.specs.Built as built
-use Rattle.cf_sequence.specs.Built.{is_value, are_values, are_arguments, is_start, is_element, is_held, next_local, is_statement, is_statement_or, are_cases, are_statements}
+use Rattle.cf_sequence.specs.Built.{is_value, are_values, are_arguments, is_start, is_filling, is_row, is_list, are_elements, is_element, is_held, next_local, is_statement, is_statement_or, are_cases, are_statements}
 use Rattle.cf_file_sound.specs.Files.{alone, is_sound_node}
-use Rattle.cf_file_sound.proofs.Typed.{never, among, same-value}
+use Rattle.cf_file_sound.proofs.Formed.{same-form}
+use Rattle.cf_file_sound.proofs.Typed.{never, among}
 use Rattle.cf_file_sound.proofs.Fitting.{same-label}
 
 -- ---- types
@@ -64,9 +66,12 @@ local-object classes [] i u ok same = never same
 local-object classes (t ∷ locals) zero u ok same = same-object classes t u (both (is_complete classes t) (list_all (is_complete classes) locals) ok).0 same
 local-object classes (t ∷ locals) (suc i) u ok same = local-object classes locals i u (both (is_complete classes t) (list_all (is_complete classes) locals) ok).1 same
 
+once : (b : Bool) → b || false ≡ true → b ≡ true
+once true e = refl
+once false e = e
+
 twice : (b : Bool) → (b || false) || false ≡ true → b ≡ true
-twice true e = refl
-twice false e = e
+twice b e = once b (once (b || false) e)
 
 -- a label, or what is a statement that fits
 by-label : (l s t u : Bool) → l || s ≡ true → l || t ≡ true → (s ≡ true → t ≡ true → u ≡ true) → l || u ≡ true
@@ -86,8 +91,8 @@ module _ (file : CoreFile) (r : Name → Name) (P : Program) (objects : List Sta
     apart : (xs ys : List Core) → are_sound (xs ++ ys) ≡ true → (are_sound xs ≡ true) × (are_sound ys ≡ true)
     apart xs ys ok = both (are_sound xs) (are_sound ys) (sym (list_all-append (is_sound_node file scope) xs ys) ∙ ok)
 
-    keeps : (t : SourceType) (e : Core) → is_value e ≡ true → keeps_functions (alone file) scope t e ≡ true → keeps_functions P there t (renamed r e) ≡ true
-    keeps t e ok kept = ap (λ x. not (leads_to_void (plain t) && leads_to_function (pointed x.type))) (same-value r scope objects e ok) ∙ kept
+    keeps : (t : SourceType) (e : Core) → keeps_functions (alone file) scope t e ≡ true → keeps_functions P there t (renamed r e) ≡ true
+    keeps t e kept = ap (λ x. not (leads_to_void (plain t) && leads_to_function (points x))) (same-form r scope.locals e) ∙ kept
 
     called : (t : SourceType) → not (is_class (result t)) ≡ true → built.is_chain t ≡ true → is_proper t ≡ true → is_called_type t ≡ true
     called t scalar chain proper = all_of (not (is_class (result t))) (simply.is_chain t && is_proper t) scalar (all_of (simply.is_chain t) (is_proper t) chain proper)
@@ -129,7 +134,7 @@ module _ (file : CoreFile) (r : Name → Name) (P : Program) (objects : List Sta
           let p = both (is_whole t && keeps_functions (alone file) scope t e) (are_sound (nodes e)) good in
           let q = both (is_whole t) (keeps_functions (alone file) scope t e) p.0 in
           all_of (is_whole t) (keeps_functions P there t (renamed r e) && is_simple P there (renamed r e)) q.0
-          (all_of (keeps_functions P there t (renamed r e)) (is_simple P there (renamed r e)) (keeps t e ok q.1) (simple e ok p.1))
+          (all_of (keeps_functions P there t (renamed r e)) (is_simple P there (renamed r e)) (keeps t e q.1) (simple e ok p.1))
       simple (core.temporary t e) ok good =
           let p = both (not (is_reference t)) (is_value e) ok in
           let q = both (is_proper t) (are_sound (nodes e)) good in
@@ -191,19 +196,50 @@ module _ (file : CoreFile) (r : Name → Name) (P : Program) (objects : List Sta
     held-type i u x (const t) ok = held-type i u x t ok
     held-type i u x t ok = never ok
 
-    pub initial : (i : ℕ) (t u : SourceType) (e : Core) → is_element t e || is_held i e ≡ true → are_sound (nodes e) ≡ true
+    filling : (e : Core) → is_filling e ≡ true → is_simple_initial P there (renamed r e) ≡ true
+    filling core.zeros ok = refl
+    filling (core.string bytes) ok = refl
+    filling e ok = never ok
+
+    mutual
+      -- what begins an object or an element of a type, where no class is there
+      element_start : has_none scope.classes ≡ true → (t : SourceType) (e : Core) → is_element t e ≡ true → are_sound (nodes e) ≡ true → is_simple_initial P there (renamed r e) ≡ true
+      element_start bare t core.zeros ok good = refl
+      element_start bare t core.blank ok good = refl
+      element_start bare t (core.string bytes) ok good = refl
+      element_start bare t (core.each e) ok good = never ok
+      element_start bare t (core.bind (local_temporary j u) e) ok good = never ok
+      element_start bare t (core.list es rest) ok good =
+          let p = both (is_row t) (are_elements (element (plain t)) es && is_filling rest) ok in
+          let q = both (are_elements (element (plain t)) es) (is_filling rest) p.1 in
+          let g = apart (nodes_all es) (nodes rest) good in
+          let each = are_simple_initials P there (renamed_all r es) in
+          let left = is_simple_initial P there (renamed r rest) in
+          all_of (has_none scope.classes) (each && left) bare (all_of each left (element_starts bare (element (plain t)) es q.0 g.0) (filling rest q.1))
+      element_start bare t e ok good = simple e (once (is_value e) ok) good
+
+      element_starts : has_none scope.classes ≡ true → (t : SourceType) (es : Cores) → are_elements t es ≡ true → are_sound (nodes_all es) ≡ true
+          → are_simple_initials P there (renamed_all r es) ≡ true
+      element_starts bare t none ok good = refl
+      element_starts bare t (core.more e es) ok good =
+          let p = both (is_element t e) (are_elements t es) ok in
+          let g = apart (nodes e) (nodes_all es) good in
+          all_of (is_simple_initial P there (renamed r e)) (are_simple_initials P there (renamed_all r es)) (element_start bare t e p.0 g.0) (element_starts bare t es p.1 g.1)
+
+    pub initial : has_none scope.classes ≡ true → (i : ℕ) (t u : SourceType) (e : Core) → is_element t e || is_held i e ≡ true → are_sound (nodes e) ≡ true
         → list_all (is_complete scope.classes) scope.locals ≡ true → (typing scope e).start u ≡ true → is_simple_initial P there (renamed r e) ≡ true
-    initial i t u core.zeros ok good whole is = refl
-    initial i t u core.blank ok good whole is = refl
-    initial i t u (core.string bytes) ok good whole is = never good
-    initial i t u (core.list es rest) ok good whole is = never good
-    initial i t u (core.bind (local_temporary j v) e) ok good whole is =
+    initial bare i t u core.zeros ok good whole is = refl
+    initial bare i t u core.blank ok good whole is = refl
+    initial bare i t u (core.string bytes) ok good whole is = refl
+    initial bare i t u (core.each e) ok good whole is = never ok
+    initial bare i t u (core.list es rest) ok good whole is = element_start bare t (core.list es rest) (once (is_list t (core.list es rest)) ok) good
+    initial bare i t u (core.bind (local_temporary j v) e) ok good whole is =
         let p = both (not (is_reference v)) (is_value e) (both (nat_lt i j) (not (is_reference v) && is_value e) ok).1 in
         let g = both (is_proper v) (are_sound (nodes e)) good in
         let object = local-object scope.classes scope.locals j v whole (held-type j v (typing scope e) u is) in
         all_of (is_whole v) (not (is_function v) && is_simple P there (renamed r e)) (all_of (is_proper v) (not (is_reference v)) g.0 p.0)
         (all_of (not (is_function v)) (is_simple P there (renamed r e)) object (simple e p.1 g.1))
-    initial i t u e ok good whole is = simple e (twice (is_value e) ok) good
+    initial bare i t u e ok good whole is = simple e (twice (is_value e) ok) good
 
     start : (e : Core) → is_start e ≡ true → are_sound (nodes e) ≡ true → is_simple_start P there (renamed r e) ≡ true
     start core.blank ok good = refl
@@ -215,7 +251,7 @@ module _ (file : CoreFile) (r : Name → Name) (P : Program) (objects : List Sta
 
   -- ---- statements
 
-  module _ (f : Body) (whole : list_all (is_complete f.scope.classes) f.scope.locals ≡ true) where
+  module _ (f : Body) (bare : has_none f.scope.classes ≡ true) (whole : list_all (is_complete f.scope.classes) f.scope.locals ≡ true) where
     abbrev by_other_names : Scope
     by_other_names = among f.scope objects
 
@@ -236,16 +272,16 @@ module _ (file : CoreFile) (r : Name → Name) (P : Program) (objects : List Sta
           let n = both (nat_le f.parameters i && same_type (slice_get f.scope.locals i) t && is_complete f.scope.classes t) ((typing f.scope e).start t) fit in
           let complete = (both (nat_le f.parameters i && same_type (slice_get f.scope.locals i) t) (is_complete f.scope.classes t) n.0).1 in
           all_of (is_object t) (is_simple_initial P by_other_names (renamed r e)) (all_of (is_proper t) (not (is_function t)) g.0 (complete-object f.scope.classes t complete))
-          (initial f.scope i t t e p.1 g.1 whole n.1)
+          (initial f.scope bare i t t e p.1 g.1 whole n.1)
       statement m b c (core.branch x s o) ok good fit =
-          let p = both (is_value x) (is_statement m s && is_statement_or m o) ok in
-          let q = both (is_statement m s) (is_statement_or m o) p.1 in
+          let p = both (is_value x) (is_statement m s && is_statement_or (next_local m s) o) ok in
+          let q = both (is_statement m s) (is_statement_or (next_local m s) o) p.1 in
           let g = apart f.scope (nodes x ++ nodes s) (nodes_maybe o) good in
           let h = apart f.scope (nodes x) (nodes s) g.0 in
           let n = both (typed.is_condition (typing f.scope x) && fits f b c s) (fits_maybe f b c o) fit in
           let inner = is_simple_inner P by_other_names (renamed_maybe r o) in
           all_of (is_simple P by_other_names (renamed r x)) (is_fine s && inner) (simple f.scope x p.0 h.0)
-          (all_of (is_fine s) inner (statement m b c s q.0 h.1 (both (typed.is_condition (typing f.scope x)) (fits f b c s) n.0).1) (or-statement m b c o q.1 g.1 n.1))
+          (all_of (is_fine s) inner (statement m b c s q.0 h.1 (both (typed.is_condition (typing f.scope x)) (fits f b c s) n.0).1) (or-statement (next_local m s) b c o q.1 g.1 n.1))
       statement m b c (core.loop how x e s) ok good fit =
           let p = both (built.is_condition x) (built.is_condition e && is_statement m s) ok in
           let q = both (built.is_condition e) (is_statement m s) p.1 in

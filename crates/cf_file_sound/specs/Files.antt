@@ -1,5 +1,5 @@
 -- What is asked of a file, beside that it is valid and of built forms, so that its meaning is never malformed: by the file's own names.
-use Rattle.std.specs.Prelude.{Bool, true, false, ◌&&◌, not, nat_le, [], length, find, codes, bytes_eq}
+use Rattle.std.specs.Prelude.{Bool, true, ◌&&◌, not, nat_le, [], length, find, is_some, codes, bytes_eq}
 use Rattle.std.specs.List.{list_all}
 use Rattle.cf_core.specs.Core as core
 use Rattle.cf_core.specs.Core.{Core, Holder, no_temporary, local_temporary, static_temporary, Function, Static, CoreFile}
@@ -24,8 +24,8 @@ is_sound_holder (local_temporary i t) = is_proper t
 is_sound_holder (static_temporary name) = true
 
 module _ (file : CoreFile) (scope : Scope) where
-  -- A node names what the file or the library has, its types are as elaboration makes them, no pointer to a function becomes one to void, and no
-  -- literal is longer than an int counts. An initialiser is no list and no string.
+  -- a node names what the file or the library has, its types are as elaboration makes them, no pointer to a function becomes one to void, and no
+  -- literal is longer than an int counts
   abbrev pub is_sound_node : Core → Bool
   is_sound_node (core.text j bytes) = nat_le (length bytes) most
   is_sound_node (core.static_object name t) = is_proper t && has_object (alone file) name
@@ -37,8 +37,6 @@ module _ (file : CoreFile) (scope : Scope) where
   is_sound_node (core.temporary t e) = is_proper t
   is_sound_node (core.bind holder e) = is_sound_holder holder
   is_sound_node (core.declare i t e) = is_proper t
-  is_sound_node (core.string bytes) = false
-  is_sound_node (core.list es rest) = false
   is_sound_node e = true
 
   -- a tree of such nodes
@@ -58,6 +56,9 @@ is_sound_object file x =
 -- a function of the name of `main` that is not the file's alone
 abbrev pub stands_for_main : Function → Bool
 stands_for_main f = bytes_eq f.name (codes "__main") && not f.is_local
+
+abbrev pub has_main : CoreFile → Bool
+has_main file = is_some (find stands_for_main file.functions)
 
 -- `main` is there, takes nothing and gives an int; and each function and object is sound
 abbrev pub is_sound_file : CoreFile → Bool

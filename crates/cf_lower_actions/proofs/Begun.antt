@@ -6,13 +6,13 @@ use Rattle.cf_base.specs.World.{World, Went, and_then}
 use Rattle.cf_core.specs.Types.{SourceType, const, without_const}
 use Rattle.cf_core.specs.Places.{is_scalar}
 use Rattle.cf_core.specs.Store as source
-use Rattle.cf_core.specs.Run.{State, Gives, onward, gone, with_object, lists_local, ◌>>=◌, ◌>>◌, gives, malformed, some_or, valid, declared_object, frame_changed, object_changed}
-use Rattle.cf_core.specs.Calls.{root, destroy}
+use Rattle.cf_core.specs.Run.{State, Gives, onward, gone, with_object, lists_local, ◌>>=◌, ◌>>◌, gives, valid, declared_object, frame_changed, object_changed}
+use Rattle.cf_core.specs.Calls.{root}
 use Rattle.cf_lower_layout.specs.Layout.{LaidOut, has_bytes}
 use Rattle.cf_lower_layout.specs.Sorts.{address}
 use Rattle.cf_plain.specs.Plain as plain
 use Rattle.cf_plain.specs.Plain.{Register, act, set}
-use Rattle.cf_plain.specs.Acts.{Registers, doing}
+use Rattle.cf_plain.specs.Acts.{Registers, doing, end_local}
 use Rattle.cf_plain.specs.Running.{Flow, Falls, calls, does, keep as keep_value}
 use Rattle.cc_whole.specs.Plain as c_tree
 use Rattle.cc_whole.specs.Plain.{Statement}
@@ -238,9 +238,10 @@ module _ (z : Scene) (fits : Fits z) (around : Around Keeping) (p : Keeping) (n 
       where
         by_local : (x : Option ℕ) → s.frame.locals i ≡ x
             → Simulates (S p)
-            ((some_or x malformed >>= (λ o. destroy (calls (again_at z n)) z.program y (root o) >> doing (object_changed o gone)) >> gives (Falls g)) s w)
+            ((end_local (calls (again_at z n)) z.program y x >> gives (Falls g)) s w)
             (list_at z n [] t w)
-        by_local None e = record { by = tt }
+        by_local None e =
+            sim-here (S p) (Falls g) s w (list_at z n [] t w) (c.Falls t) refl (record { after = t; is = refl; related = h })
         by_local (Some o) e =
             subst (λ ran. Simulates (S p)
             (and_then

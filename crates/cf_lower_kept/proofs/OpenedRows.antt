@@ -5,7 +5,7 @@ use Rattle.std.specs.Prelude.{pos, codes, Some, None}
 use Rattle.cf_base.specs.declared.kind.Kind.TheVariants.{Char, Int}
 use Rattle.cf_core.specs.Types.{SourceType, void, integer, reference, array, takes, gives, const}
 use Rattle.cf_core.specs.Core.{plain_function}
-use Rattle.cf_plain.specs.Plain.{number, local, function, read, decay, index, truth, declare, first, zeros, bytes, finish, call, Plains, act, set, branch, switch, case_label, default_label, leave, give, nothing, more, PlainFunction}
+use Rattle.cf_plain.specs.Plain.{number, local, function, read, decay, index, truth, declare, first, zeros, bytes, finish, call, Plains, act, set, branch, loop, switch, case_label, default_label, leave, give, nothing, more, PlainFunction}
 use Rattle.cf_lower_kept.specs.Opened.{function_opens}
 
 function_of : Plains → PlainFunction
@@ -151,3 +151,65 @@ nested = refl
 nested_end : function_opens (text_lists (inner_at 3 (more (act (zeros 2)) (more (act (finish texts 0)) nothing)))) ≡ false
 unfolding texts text_lists inner_at element_at
 nested_end = refl
+
+-- void f(){int c=1;if(c)int x=2;else int y=3;..}: behind the `if` both of them may stand, and end
+int_at : ℕ → ℕ → Plains → Plains
+int_at i n rest = more (set 0 (declare i (integer Int))) (more (set 1 (number (pos n))) (more (act (first 0 1)) rest))
+
+ends : ℕ → Plains → Plains
+ends i rest = more (act (finish (integer Int) i)) rest
+
+tested : Plains → Plains
+tested rest = more (set 0 (local 0)) (more (set 0 (read 0)) (more (set 0 (truth 0)) rest))
+
+arms : Plains → Plains
+arms rest = int_at 0 1 (tested (more (branch 0 (int_at 1 2 nothing) (int_at 2 3 nothing)) rest))
+
+of_arms : Plains → PlainFunction
+of_arms body = record {
+  name = codes "f__Fv";
+  role = plain_function;
+  type = gives void false;
+  locals = integer Int ∷ integer Int ∷ integer Int ∷ [];
+  body = body;
+  is_shared = false;
+  is_local = false;
+}
+
+arms_end : function_opens (of_arms (arms (int_at 3 4 (ends 3 (ends 2 (ends 1 (ends 0 nothing))))))) ≡ true
+unfolding int_at ends tested arms of_arms
+arms_end = refl
+
+arm_stays : function_opens (of_arms (arms (ends 1 (ends 0 nothing)))) ≡ false
+unfolding int_at ends tested arms of_arms
+arm_stays = refl
+
+arm_ends_twice : function_opens (of_arms (arms (ends 1 (ends 2 (ends 1 (ends 0 nothing)))))) ≡ false
+unfolding int_at ends tested arms of_arms
+arm_ends_twice = refl
+
+arm_stands_again : function_opens (of_arms (arms (int_at 1 4 (ends 2 (ends 1 (ends 0 nothing)))))) ≡ false
+unfolding int_at ends tested arms of_arms
+arm_stands_again = refl
+
+-- while(c){if(c)int x=2;if(c)break;if(c)return;} of which each way out ends x
+turning : Plains → Plains → PlainFunction
+turning left back = of_arms
+    (int_at 0 1
+    (more (loop
+    (tested (more (branch 0 (int_at 1 2 nothing) nothing)
+    (tested (more (branch 0 left nothing)
+    (tested (more (branch 0 back nothing) (ends 1 nothing))))))) nothing)
+    (ends 0 nothing)))
+
+turns_end : function_opens (turning (ends 1 (more leave nothing)) (ends 1 (ends 0 (more (give None) nothing)))) ≡ true
+unfolding int_at ends tested of_arms turning
+turns_end = refl
+
+stays_at_break : function_opens (turning (more leave nothing) (ends 1 (ends 0 (more (give None) nothing)))) ≡ false
+unfolding int_at ends tested of_arms turning
+stays_at_break = refl
+
+stays_at_return : function_opens (turning (ends 1 (more leave nothing)) (ends 0 (more (give None) nothing))) ≡ false
+unfolding int_at ends tested of_arms turning
+stays_at_return = refl

@@ -1,9 +1,10 @@
 -- Which parameters and locals of a plain function have an object where control is, and of which the first value is still to come: a local is declared where it has
 -- none, gets its first value, or is filled, in the register that it was declared in, is an argument once it has one, and is gone where the function ends. A switch of which a
 -- label passes a local stands behind a switch by the same register, which declares the local. What stands where one of two ways was taken alone, as a temporary in a branch, has a
--- flag: a register that is set to 0 before both and to 1 where the object is there, and by which a branch ends it. A list stores at the elements of an array, so that of each register
+-- flag: a register that is set to 0 before both and to 1 where the object is there, and by which a branch ends it. What is declared there as the statement of an `if` by itself has none:
+-- behind both ways it may stand, and ends whether it has an object or not. A list stores at the elements of an array, so that of each register
 -- with a place in the object it is told how many elements stand from there on: the first element's place is that of the array, and another's is moved by a number.
-use Rattle.std.specs.Prelude.{ℕ, suc, ◌-◌, nat_lt, Bool, true, false, ◌&&◌, not, ◌==◌, if◌then◌else◌, List, [], ◌∷◌, ◌++◌, map, filter, ℤ, pos, negsuc, int_le, Option, Some, None, bytes_eq}
+use Rattle.std.specs.Prelude.{ℕ, suc, ◌-◌, nat_lt, Bool, true, false, ◌&&◌, not, ◌==◌, if◌then◌else◌, List, [], ◌∷◌, ◌++◌, map, filter, find, ℤ, pos, negsuc, int_le, Option, Some, None, bytes_eq}
 use Rattle.std.specs.List.{list_all, list_any}
 use Rattle.cf_core.specs.Types.{SourceType, array, const, parameters, result as result_type}
 use Rattle.cf_plain.specs.Plain.{Register, Action, number, decay, index, declare, first, zeros, bytes, finish, call, pointer_call, Plain, Plains, act, set, branch, loop, switch, case_label, default_label, leave, continue, give, parts, nothing, more, PlainFunction, PlainFile}
@@ -272,16 +273,11 @@ pub data Where : Type 0 where
   away : Where
   wrong : Where
 
-abbrev pub same_locals : List Opened → List Opened → Bool
-same_locals [] [] = true
-same_locals (x ∷ xs) (y ∷ ys) = (x.local == y.local) && same_locals xs ys
-same_locals xs ys = false
-
 abbrev pub same_begun : Option Register → Option Register → Option Register
 same_begun (Some r) (Some q) = if r == q then Some r else None
 same_begun x y = None
 
--- where it stands on one of two ways alone its flag tells
+-- what is told on both of two ways; where its flag is told on both, it tells of one that stands on one of them alone
 abbrev pub same_stand : Option Bool → Option Bool → Option Bool
 same_stand (Some true) (Some true) = Some true
 same_stand (Some false) (Some false) = Some false
@@ -299,16 +295,39 @@ both_one x y = record {
   last = None;
 }
 
+-- What is declared on one of two ways alone, as the statement of an `if` by itself, may stand behind them (6.4.1, 6.5.3).
+abbrev pub one_way : Opened → Opened
+one_way x = record {
+  local = x.local;
+  begun = None;
+  has_value = false;
+  stands = same_stand x.stands (Some false);
+  flag = None;
+  is_told = false;
+  places = no_places;
+  last = None;
+}
+
+abbrev pub one_or_both : Opened → Option Opened → Opened
+one_or_both x None = one_way x
+one_or_both x (Some y) = both_one x y
+
+abbrev pub met_one : List Opened → Opened → Opened
+met_one ys x = one_or_both x (find (is_local x.local) ys)
+
+abbrev pub is_left_out : List Opened → Opened → Bool
+is_left_out xs y = not (is_listed y.local xs)
+
+-- the locals of both ways
 abbrev pub both_opened : List Opened → List Opened → List Opened
-both_opened (x ∷ xs) (y ∷ ys) = both_one x y ∷ both_opened xs ys
-both_opened xs ys = []
+both_opened xs ys = map (met_one ys) xs ++ map one_way (filter (is_left_out xs) ys)
 
 abbrev pub joined : Where → Where → Where
 joined wrong y = wrong
 joined x wrong = wrong
 joined away y = y
 joined x away = x
-joined (falls xs) (falls ys) = if same_locals xs ys then falls (both_opened xs ys) else wrong
+joined (falls xs) (falls ys) = falls (both_opened xs ys)
 
 abbrev pub as_open : Option Bool → Option Bool → Bool
 as_open (Some true) (Some true) = true

@@ -1,12 +1,12 @@
 -- Lists of the locals that are open: what is still so of them at the turns of loops and behind labels, where two ways part by a number, and where they join.
-use Rattle.std.proofs.Common.{◌≡◌, ℕ, ◌<◌, Bool, true, false, ◌&&◌, ◌||◌, not, ◌==◌, if◌then◌else◌, List, [], ◌∷◌, refl, sym, ◌∙◌, ap, subst}
-use Rattle.std.specs.Prelude.{map, ℤ, Option, Some, None, bytes_eq}
+use Rattle.std.proofs.Common.{◌≡◌, ℕ, ◌<◌, Bool, true, false, ◌&&◌, ◌||◌, not, ◌==◌, if◌then◌else◌, List, [], ◌∷◌, ◌++◌, refl, sym, ◌∙◌, ap, subst}
+use Rattle.std.specs.Prelude.{map, filter, find, ℤ, Option, Some, None, bytes_eq}
 use Rattle.cf_base.proofs.Tests.{both, same_bytes}
 use Rattle.cf_core.specs.Store as source
 use Rattle.cf_core.specs.Run.{State}
 use Rattle.cf_plain.specs.Plain.{Register}
 use Rattle.cf_plain.specs.Acts.{Registers}
-use Rattle.cf_lower_kept.specs.Opened.{Opened, Counts, no_places, same_places, is_over, is_open_one, is_open, is_listed, is_register, settled, flag_number, is_unknown, goes_by, stands_by, where_set, where_unset, awaited, same_locals, same_begun, same_stand, both_one, both_opened, as_open, same_open}
+use Rattle.cf_lower_kept.specs.Opened.{Opened, Counts, no_places, same_places, is_local, is_over, is_open_one, is_open, is_listed, is_register, settled, flag_number, is_unknown, goes_by, stands_by, where_set, where_unset, awaited, same_begun, same_stand, both_one, one_way, one_or_both, met_one, is_left_out, both_opened, as_open, same_open}
 use Rattle.cf_lower_kept.proofs.Types.{same-number}
 use Rattle.cf_lower_bounds.specs.Needs.{is_nonzero}
 use Rattle.cf_lower_bounds.specs.Points.{Stands, Begun, Valued, Parts, IsOver, IsTold, IsOpen, AllOpen, Open}
@@ -47,6 +47,9 @@ same-settled (x ∷ xs) (z ∷ zs) e =
 its-register : (o : Option Register) (r : Register) → is_register o r ≡ true → o ≡ Some r
 its-register None r e = absurd (let k = e in cc)
 its-register (Some q) r e = ap (λ (i : Register). Some i) (same-number q r e)
+
+some-one : {x y : Opened} → Some x ≡ Some y → x ≡ y
+some-one e = cc
 
 some-number : {a b : ℤ} → Some (source.Number a) ≡ Some (source.Number b) → a ≡ b
 some-number e = cc
@@ -232,43 +235,69 @@ stand-right (Some true) (Some true) w h = h
 stand-right (Some false) (Some false) w h = h
 stand-right a b w h = tt
 
-over-left : (c : Bool) (a b : Option Bool) → (c && not (is_over (same_stand a b))) ≡ false → (c && not (is_over a)) ≡ false
-over-left false a b e = refl
-over-left true (Some false) b e = refl
-over-left true (Some true) (Some true) e = absurd (let k = e in cc)
-over-left true (Some true) (Some false) e = absurd (let k = e in cc)
-over-left true (Some true) None e = absurd (let k = e in cc)
-over-left true None b e = absurd (let k = e in cc)
+-- ---- which locals are listed behind both
 
-over-right : (c : Bool) (a b : Option Bool) → (c && not (is_over (same_stand a b))) ≡ false → (c && not (is_over b)) ≡ false
-over-right false a b e = refl
-over-right true a (Some false) e = refl
-over-right true (Some true) (Some true) e = absurd (let k = e in cc)
-over-right true (Some false) (Some true) e = absurd (let k = e in cc)
-over-right true None (Some true) e = absurd (let k = e in cc)
-over-right true (Some true) None e = absurd (let k = e in cc)
-over-right true (Some false) None e = absurd (let k = e in cc)
-over-right true None None e = absurd (let k = e in cc)
+one-of : (a b : Bool) → (a || b) ≡ true → a ≡ false → b ≡ true
+one-of a b e k = sym (ap (λ c. c || b) k) ∙ e
 
-closed-left : (i : ℕ) (xs ys : List Opened) → same_locals xs ys ≡ true → is_open i (both_opened xs ys) ≡ false → is_open i xs ≡ false
-closed-left i [] [] e k = refl
-closed-left i [] (y ∷ ys) e k = absurd (let j = e in cc)
-closed-left i (x ∷ xs) [] e k = absurd (let j = e in cc)
-closed-left i (x ∷ xs) (y ∷ ys) e k =
-    let two = both (x.local == y.local) (same_locals xs ys) e in
-    let none = neither (is_open_one i (both_one x y)) (is_open i (both_opened xs ys)) k in
-    none-of (is_open_one i x) (is_open i xs) (over-left (x.local == i) x.stands y.stands none.0) (closed-left i xs ys two.1 none.1)
+met-local : (i : ℕ) (x : Opened) (o : Option Opened) → is_local i (one_or_both x o) ≡ is_local i x
+met-local i x None = refl
+met-local i x (Some y) = refl
 
-closed-right : (i : ℕ) (xs ys : List Opened) → same_locals xs ys ≡ true → is_open i (both_opened xs ys) ≡ false → is_open i ys ≡ false
-closed-right i [] [] e k = refl
-closed-right i [] (y ∷ ys) e k = absurd (let j = e in cc)
-closed-right i (x ∷ xs) [] e k = absurd (let j = e in cc)
-closed-right i (x ∷ xs) (y ∷ ys) e k =
-    let two = both (x.local == y.local) (same_locals xs ys) e in
-    let none = neither (is_open_one i (both_one x y)) (is_open i (both_opened xs ys)) k in
-    none-of (is_open_one i y) (is_open i ys)
-    (ap (λ j. (j == i) && not (is_over y.stands)) (sym (same-number x.local y.local two.0)) ∙ over-right (x.local == i) x.stands y.stands none.0)
-    (closed-right i xs ys two.1 none.1)
+listed-met : (i : ℕ) (ys xs : List Opened) → is_listed i (map (met_one ys) xs) ≡ is_listed i xs
+listed-met i ys [] = refl
+listed-met i ys (x ∷ xs) =
+    ap (λ b. b || is_listed i (map (met_one ys) xs)) (met-local i x (find (is_local x.local) ys)) ∙ ap (λ b. is_local i x || b) (listed-met i ys xs)
+
+unlisted-both : (i : ℕ) (xs ys : List Opened) → is_listed i (xs ++ ys) ≡ false → (is_listed i xs ≡ false) × (is_listed i ys ≡ false)
+unlisted-both i [] ys e = (refl, e)
+unlisted-both i (x ∷ xs) ys e =
+    let two = neither (is_local i x) (is_listed i (xs ++ ys)) e in
+    let rest = unlisted-both i xs ys two.1 in
+    (none-of (is_local i x) (is_listed i xs) two.0 rest.0, rest.1)
+
+unlisted-out : (i : ℕ) (xs ys : List Opened) → is_listed i xs ≡ false → is_listed i (map one_way (filter (is_left_out xs) ys)) ≡ false → is_listed i ys ≡ false
+unlisted-out i xs [] none e = refl
+unlisted-out i xs (y ∷ ys) none e = by (λ k. unlisted-out i xs ys none k) (is_listed y.local xs) refl e
+  where
+    apart : is_listed y.local xs ≡ true → (b : Bool) → y.local == i ≡ b → y.local == i ≡ false
+    apart there false k = k
+    apart there true k = absurd (let two : true ≡ false = sym there ∙ ap (λ j. is_listed j xs) (same-number y.local i k) ∙ none in cc)
+
+    by : (is_listed i (map one_way (filter (is_left_out xs) ys)) ≡ false → is_listed i ys ≡ false) → (b : Bool) → is_listed y.local xs ≡ b
+        → is_listed i (map one_way (if not b then y ∷ filter (is_left_out xs) ys else filter (is_left_out xs) ys)) ≡ false → is_listed i (y ∷ ys) ≡ false
+    by rest true k e = none-of (is_local i y) (is_listed i ys) (apart k (y.local == i) refl) (rest e)
+    by rest false k e =
+        let two = neither (is_local i y) (is_listed i (map one_way (filter (is_left_out xs) ys))) e in
+        none-of (is_local i y) (is_listed i ys) two.0 (rest two.1)
+
+unlisted-either : (i : ℕ) (xs ys : List Opened) → is_listed i (both_opened xs ys) ≡ false → (is_listed i xs ≡ false) × (is_listed i ys ≡ false)
+unlisted-either i xs ys e =
+    let two = unlisted-both i (map (met_one ys) xs) (map one_way (filter (is_left_out xs) ys)) e in
+    let none : is_listed i xs ≡ false = sym (listed-met i ys xs) ∙ two.0 in
+    (none, unlisted-out i xs ys none two.1)
+
+-- what is found, or not
+found-local : (i : ℕ) (ys : List Opened) (y : Opened) → find (is_local i) ys ≡ Some y → y.local ≡ i
+found-local i [] y e = absurd (let k = e in cc)
+found-local i (x ∷ xs) y e = by (found-local i xs y) (is_local i x) refl e
+  where
+    by : (find (is_local i) xs ≡ Some y → y.local ≡ i) → (b : Bool) → is_local i x ≡ b → (if b then Some x else find (is_local i) xs) ≡ Some y → y.local ≡ i
+    by rest true k e = ap (λ (z : Opened). z.local) (sym (some-one e)) ∙ same-number x.local i k
+    by rest false k e = rest e
+
+not-found : (i : ℕ) (ys : List Opened) → find (is_local i) ys ≡ None → is_listed i ys ≡ false
+not-found i [] e = refl
+not-found i (x ∷ xs) e = by (not-found i xs) (is_local i x) refl e
+  where
+    by : (find (is_local i) xs ≡ None → is_listed i xs ≡ false) → (b : Bool) → is_local i x ≡ b → (if b then Some x else find (is_local i) xs) ≡ None → (is_local i x || is_listed i xs) ≡ false
+    by rest true k e = absurd (let j = e in cc)
+    by rest false k e = none-of (is_local i x) (is_listed i xs) k (rest e)
+
+over-is : (c : Bool) (o : Option Bool) → c ≡ true → (c && not (is_over o)) ≡ false → o ≡ Some false
+over-is c (Some false) k e = refl
+over-is c (Some true) k e = absurd (let i = k in let j = e in cc)
+over-is c None k e = absurd (let i = k in let j = e in cc)
 
 module _ (count : ℕ) (g : Registers) (s : State) where
   parts-left : (i : ℕ) (r : Register) (ns ms : Counts) → Parts count i r ns g s → Parts count i r (if bytes_eq ns ms then ns else []) g s
@@ -285,57 +314,143 @@ module _ (count : ℕ) (g : Registers) (s : State) where
       by_test true e = subst (λ ks. Parts count i r ks g s) (sym (same_bytes ns ms e)) h
       by_test false e = tt
 
-  all-left : (xs ys : List Opened) → same_locals xs ys ≡ true → AllOpen count xs g s → AllOpen count (both_opened xs ys) g s
-  all-left [] [] e h = tt
-  all-left [] (y ∷ ys) e h = absurd (let k = e in cc)
-  all-left (x ∷ xs) [] e h = absurd (let k = e in cc)
-  all-left (x ∷ xs) (y ∷ ys) e h =
-      let two = both (x.local == y.local) (same_locals xs ys) e in
-      let one = h.0 in (
-        record {
-          way = one.way;
-          told = stand-left x.stands y.stands one.way one.told;
-          there = one.there;
-          over = one.over;
-          begun = λ r k. one.begun r (begun-left x.begun y.begun r k);
-          value = λ v. one.value (both x.has_value y.has_value v).0;
-          flag = λ t r k. one.flag (both x.is_told y.is_told t).0 r (begun-left x.flag y.flag r k);
-          parts = λ r. parts-left x.local r (x.places r) (y.places r) (one.parts r);
-          last = λ r n k. absurd (let j = k in cc);
-        },
-        all-left xs ys two.1 h.1,
-      )
-
-  all-right : (xs ys : List Opened) → same_locals xs ys ≡ true → AllOpen count ys g s → AllOpen count (both_opened xs ys) g s
-  all-right [] [] e h = tt
-  all-right [] (y ∷ ys) e h = absurd (let k = e in cc)
-  all-right (x ∷ xs) [] e h = absurd (let k = e in cc)
-  all-right (x ∷ xs) (y ∷ ys) e h =
-      let two = both (x.local == y.local) (same_locals xs ys) e in
-      let same : y.local ≡ x.local = sym (same-number x.local y.local two.0) in
-      let one = h.0 in (
-        record {
-          way = one.way;
-          told = stand-right x.stands y.stands one.way one.told;
-          there = λ k. subst (λ i. Stands count i s) same (one.there k);
-          over = λ k. subst (λ i. IsOver count i s) same (one.over k);
-          begun = λ r k. subst (λ i. Begun count i r g s) same (one.begun r (begun-right x.begun y.begun r k));
-          value = λ v. subst (λ i. Valued count i s) same (one.value (both x.has_value y.has_value v).1);
-          flag = λ t r k. one.flag (both x.is_told y.is_told t).1 r (begun-right x.flag y.flag r k);
-          parts = λ r. subst (λ i. Parts count i r (same_places x.places y.places r) g s) same (parts-right y.local r (x.places r) (y.places r) (one.parts r));
-          last = λ r n k. absurd (let j = k in cc);
-        },
-        all-right xs ys two.1 h.1,
-      )
-
-  pub open-left : (xs ys : List Opened) → same_locals xs ys ≡ true → Open count xs g s → Open count (both_opened xs ys) g s
-  open-left xs ys e h = record {
-    each = all-left xs ys e h.each;
-    over = λ i o lt k l. h.over i o lt (closed-left i xs ys e k) l;
+  both-left : (x y : Opened) → IsOpen count x g s → IsOpen count (both_one x y) g s
+  both-left x y h = record {
+    way = h.way;
+    told = stand-left x.stands y.stands h.way h.told;
+    there = h.there;
+    over = h.over;
+    begun = λ r k. h.begun r (begun-left x.begun y.begun r k);
+    value = λ v. h.value (both x.has_value y.has_value v).0;
+    flag = λ t r k. h.flag (both x.is_told y.is_told t).0 r (begun-left x.flag y.flag r k);
+    parts = λ r. parts-left x.local r (x.places r) (y.places r) (h.parts r);
+    last = λ r n k. absurd (let j = k in cc);
   }
 
-  pub open-right : (xs ys : List Opened) → same_locals xs ys ≡ true → Open count ys g s → Open count (both_opened xs ys) g s
-  open-right xs ys e h = record {
-    each = all-right xs ys e h.each;
-    over = λ i o lt k l. h.over i o lt (closed-right i xs ys e k) l;
+  both-right : (x y : Opened) → y.local ≡ x.local → IsOpen count y g s → IsOpen count (both_one x y) g s
+  both-right x y same h = record {
+    way = h.way;
+    told = stand-right x.stands y.stands h.way h.told;
+    there = λ k. subst (λ i. Stands count i s) same (h.there k);
+    over = λ k. subst (λ i. IsOver count i s) same (h.over k);
+    begun = λ r k. subst (λ i. Begun count i r g s) same (h.begun r (begun-right x.begun y.begun r k));
+    value = λ v. subst (λ i. Valued count i s) same (h.value (both x.has_value y.has_value v).1);
+    flag = λ t r k. h.flag (both x.is_told y.is_told t).1 r (begun-right x.flag y.flag r k);
+    parts = λ r. subst (λ i. Parts count i r (same_places x.places y.places r) g s) same (parts-right y.local r (x.places r) (y.places r) (h.parts r));
+    last = λ r n k. absurd (let j = k in cc);
   }
+
+  -- listed on the way that was taken
+  one-taken : (x : Opened) → IsOpen count x g s → IsOpen count (one_way x) g s
+  one-taken x h = record {
+    way = h.way;
+    told = stand-left x.stands (Some false) h.way h.told;
+    there = h.there;
+    over = h.over;
+    begun = λ r k. absurd (let j = k in cc);
+    value = λ k. absurd (let j = k in cc);
+    flag = λ k. absurd (let j = k in cc);
+    parts = λ r. tt;
+    last = λ r n k. absurd (let j = k in cc);
+  }
+
+  -- and on the other one
+  one-not_taken : (x : Opened) → IsOver count x.local s → IsOpen count (one_way x) g s
+  one-not_taken x over = record {
+    way = false;
+    told = stand-right x.stands (Some false) false refl;
+    there = λ k. absurd (let j = k in cc);
+    over = λ k. over;
+    begun = λ r k. absurd (let j = k in cc);
+    value = λ k. absurd (let j = k in cc);
+    flag = λ k. absurd (let j = k in cc);
+    parts = λ r. tt;
+    last = λ r n k. absurd (let j = k in cc);
+  }
+
+  found-open : (i : ℕ) (ys : List Opened) (y : Opened) → find (is_local i) ys ≡ Some y → AllOpen count ys g s → IsOpen count y g s
+  found-open i [] y e h = absurd (let k = e in cc)
+  found-open i (x ∷ xs) y e h = by (λ k. found-open i xs y k h.1) (is_local i x) e
+    where
+      by : (find (is_local i) xs ≡ Some y → IsOpen count y g s) → (b : Bool) → (if b then Some x else find (is_local i) xs) ≡ Some y → IsOpen count y g s
+      by rest true k = subst (λ z. IsOpen count z g s) (some-one k) h.0
+      by rest false k = rest k
+
+  left-one : (x : Opened) (o : Option Opened) → IsOpen count x g s → IsOpen count (one_or_both x o) g s
+  left-one x None h = one-taken x h
+  left-one x (Some y) h = both-left x y h
+
+  abbrev OverBut : List Opened → Type 0
+  OverBut xs = (i : ℕ) → is_listed i xs ≡ false → IsOver count i s
+
+  right-one : (ys : List Opened) → AllOpen count ys g s → OverBut ys → (x : Opened) (o : Option Opened) → find (is_local x.local) ys ≡ o → IsOpen count (one_or_both x o) g s
+  right-one ys h over x None e = one-not_taken x (over x.local (not-found x.local ys e))
+  right-one ys h over x (Some y) e = both-right x y (found-local x.local ys y e) (found-open x.local ys y e h)
+
+  met-left : (ys xs : List Opened) → AllOpen count xs g s → AllOpen count (map (met_one ys) xs) g s
+  met-left ys [] h = tt
+  met-left ys (x ∷ xs) h = (left-one x (find (is_local x.local) ys) h.0, met-left ys xs h.1)
+
+  met-right : (ys xs : List Opened) → AllOpen count ys g s → OverBut ys → AllOpen count (map (met_one ys) xs) g s
+  met-right ys [] h over = tt
+  met-right ys (x ∷ xs) h over = (right-one ys h over x (find (is_local x.local) ys) refl, met-right ys xs h over)
+
+  out-left : (xs ys : List Opened) → OverBut xs → AllOpen count (map one_way (filter (is_left_out xs) ys)) g s
+  out-left xs [] over = tt
+  out-left xs (y ∷ ys) over = by (out-left xs ys over) (is_listed y.local xs) refl
+    where
+      by : AllOpen count (map one_way (filter (is_left_out xs) ys)) g s → (b : Bool) → is_listed y.local xs ≡ b
+          → AllOpen count (map one_way (if not b then y ∷ filter (is_left_out xs) ys else filter (is_left_out xs) ys)) g s
+      by rest true k = rest
+      by rest false k = (one-not_taken y (over y.local k), rest)
+
+  out-right : (xs ys : List Opened) → AllOpen count ys g s → AllOpen count (map one_way (filter (is_left_out xs) ys)) g s
+  out-right xs [] h = tt
+  out-right xs (y ∷ ys) h = by (out-right xs ys h.1) (is_listed y.local xs)
+    where
+      by : AllOpen count (map one_way (filter (is_left_out xs) ys)) g s → (b : Bool)
+          → AllOpen count (map one_way (if not b then y ∷ filter (is_left_out xs) ys else filter (is_left_out xs) ys)) g s
+      by rest true = rest
+      by rest false = (one-taken y h.0, rest)
+
+  all-appended : (xs ys : List Opened) → AllOpen count xs g s → AllOpen count ys g s → AllOpen count (xs ++ ys) g s
+  all-appended [] ys h k = k
+  all-appended (x ∷ xs) ys h k = (h.0, all-appended xs ys h.1 k)
+
+  -- what is listed and does not stand is over
+  listed-over : (i : ℕ) (xs : List Opened) → AllOpen count xs g s → is_listed i xs ≡ true → is_open i xs ≡ false → IsOver count i s
+  listed-over i [] h e k = absurd (let j = e in cc)
+  listed-over i (x ∷ xs) h e k =
+      let none = neither (is_open_one i x) (is_open i xs) k in
+      by (λ there. listed-over i xs h.1 there none.1) none.0 (is_local i x) refl
+    where
+      told-over : (o : Option Bool) (w : Bool) → IsTold o w → o ≡ Some false → w ≡ false
+      told-over o w told is = sym (subst (λ (q : Option Bool). IsTold q w) is told)
+
+      by : (is_listed i xs ≡ true → IsOver count i s) → is_open_one i x ≡ false → (b : Bool) → is_local i x ≡ b → IsOver count i s
+      by rest none true k =
+          subst (λ j. IsOver count j s) (same-number x.local i k) (h.0.over (told-over x.stands h.0.way h.0.told (over-is (is_local i x) x.stands k none)))
+      by rest none false k = rest (one-of (is_local i x) (is_listed i xs) e k)
+
+  unlisted-over : (xs : List Opened) → Open count xs g s → OverBut xs
+  unlisted-over xs h i e o lt l = h.over i o lt (open-listed i xs e) l
+
+  open-both : (xs ys : List Opened) → AllOpen count (both_opened xs ys) g s → ((i : ℕ) → is_listed i (both_opened xs ys) ≡ false → IsOver count i s)
+      → Open count (both_opened xs ys) g s
+  open-both xs ys each over = record { each = each; over = λ i o lt k l. by i k (is_listed i (both_opened xs ys)) refl o lt l }
+    where
+      by : (i : ℕ) → is_open i (both_opened xs ys) ≡ false → (b : Bool) → is_listed i (both_opened xs ys) ≡ b → IsOver count i s
+      by i k true e = listed-over i (both_opened xs ys) each e k
+      by i k false e = over i e
+
+  pub open-left : (xs ys : List Opened) → Open count xs g s → Open count (both_opened xs ys) g s
+  open-left xs ys h =
+      open-both xs ys
+      (all-appended (map (met_one ys) xs) (map one_way (filter (is_left_out xs) ys)) (met-left ys xs h.each) (out-left xs ys (unlisted-over xs h)))
+      (λ i e. unlisted-over xs h i (unlisted-either i xs ys e).0)
+
+  pub open-right : (xs ys : List Opened) → Open count ys g s → Open count (both_opened xs ys) g s
+  open-right xs ys h =
+      open-both xs ys
+      (all-appended (map (met_one ys) xs) (map one_way (filter (is_left_out xs) ys)) (met-right ys xs h.each (unlisted-over ys h)) (out-right xs ys h.each))
+      (λ i e. unlisted-over ys h i (unlisted-either i xs ys e).1)

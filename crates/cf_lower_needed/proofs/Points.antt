@@ -5,7 +5,7 @@ use Rattle.cf_core.specs.Types.{type_eq}
 use Rattle.cf_lower_layout.specs.Sorts.{Sort, number, address, code}
 use Rattle.cf_base.specs.declared.kind.Kind.TheVariants.{Int}
 use Rattle.cf_lower.specs.Kept.{Kept, unknown, integer_of, holds, argument, Keeping, local_kept, same_kept, both_kept, common}
-use Rattle.cf_lower_kept.specs.Opened.{Opened, settled, same_locals, same_open, both_opened, Where, falls, away, wrong, joined, comes_to}
+use Rattle.cf_lower_kept.specs.Opened.{Opened, settled, same_open, both_opened, Where, falls, away, wrong, joined, comes_to}
 use Rattle.cf_lower_kept.specs.Told.{TellsLess}
 use Rattle.cf_lower_leaves.proofs.Narrowing.{narrows}
 use Rattle.cf_lower_steps.proofs.Branches.{common-left, common-right}
@@ -111,14 +111,9 @@ module _ (z : Scene) where
     within-left (falls xs) wrong e = absurd (let k = e in cc)
     within-left (falls xs) away e =
         lies-within z (point_at one xs) (point_at (common one two) xs) (record { registers = left-narrows; standing = λ g s o. o })
-    within-left (falls xs) (falls ys) e = by (same_locals xs ys) refl e
-      where
-        by : (t : Bool) → same_locals xs ys ≡ t → is_right (if t then falls (both_opened xs ys) else wrong) ≡ true
-            → LiesWithin z (point_at one xs) (point_of (common one two) (if t then falls (both_opened xs ys) else wrong))
-        by true k r =
-            lies-within z (point_at one xs) (point_at (common one two) (both_opened xs ys))
-            (record { registers = left-narrows; standing = λ g s o. open-left (local_count z) g s xs ys k o })
-        by false k r = absurd (let i = r in cc)
+    within-left (falls xs) (falls ys) e =
+        lies-within z (point_at one xs) (point_at (common one two) (both_opened xs ys))
+        (record { registers = left-narrows; standing = λ g s o. open-left (local_count z) g s xs ys o })
 
     pub within-right : (a b : Where) → is_right (joined a b) ≡ true → LiesWithin z (point_of two b) (point_of (common one two) (joined a b))
     within-right wrong b e = absurd (let k = e in cc)
@@ -126,11 +121,6 @@ module _ (z : Scene) where
     within-right a wrong e = from-never two (point_of (common one two) (joined a wrong))
     within-right away (falls ys) e =
         lies-within z (point_at two ys) (point_at (common one two) ys) (record { registers = right-narrows; standing = λ g s o. o })
-    within-right (falls xs) (falls ys) e = by (same_locals xs ys) refl e
-      where
-        by : (t : Bool) → same_locals xs ys ≡ t → is_right (if t then falls (both_opened xs ys) else wrong) ≡ true
-            → LiesWithin z (point_at two ys) (point_of (common one two) (if t then falls (both_opened xs ys) else wrong))
-        by true k r =
-            lies-within z (point_at two ys) (point_at (common one two) (both_opened xs ys))
-            (record { registers = right-narrows; standing = λ g s o. open-right (local_count z) g s xs ys k o })
-        by false k r = absurd (let i = r in cc)
+    within-right (falls xs) (falls ys) e =
+        lies-within z (point_at two ys) (point_at (common one two) (both_opened xs ys))
+        (record { registers = right-narrows; standing = λ g s o. open-right (local_count z) g s xs ys o })

@@ -7,18 +7,19 @@ use Rattle.cf_core.specs.Types.{SourceType, class, array, const}
 use Rattle.cf_core.specs.Classes.{Class}
 use Rattle.cf_core.specs.Core.{item}
 use Rattle.cf_core.specs.Places.{Place, inner}
-use Rattle.cf_core.specs.Run.{State, Gives, onward, upd, gone, with_object, ◌>>=◌, ◌>>◌, gives, malformed, some_or, when, done, tick, for_each_back, object_changed}
+use Rattle.cf_core.specs.Run.{State, Gives, onward, upd, gone, with_object, ◌>>=◌, ◌>>◌, gives, when, done, tick, for_each_back, object_changed}
 use Rattle.cf_core.specs.Calls.{Program, root, has_destructor, destroy}
 use Rattle.cf_core.specs.Calls as core
 use Rattle.cf_lower_layout.specs.Layout.{has_bytes}
 use Rattle.cf_plain.specs.Plain as plain
 use Rattle.cf_plain.specs.Plain.{Register, act}
-use Rattle.cf_plain.specs.Acts.{doing}
+use Rattle.cf_plain.specs.Acts.{doing, end_local}
 use Rattle.cf_plain.specs.Running.{Falls, calls, does}
 use Rattle.cc_whole_mean.specs.Flow as c
 use Rattle.cf_lower_relate.specs.Map.{Map, Stage, ended, is_ended, is_hidden, without}
 use Rattle.cf_lower_relate.proofs.Births.{grows-without, rel-ended}
 use Rattle.cf_lower_relate.proofs.Objects.{upd-cases}
+use Rattle.cf_lower_relate.proofs.Values.{grows-same}
 use Rattle.cf_lower_steps.specs.Own.{OwnBlocks, LocalObject, InLocals}
 use Rattle.cf_lower_steps.specs.Flows.{Between, Simulates, Ends}
 use Rattle.cf_lower_steps.specs.Lowering.{falls_only}
@@ -85,14 +86,25 @@ module _ (at : Moment) (h : Stands at) (i : ℕ) (t : SourceType) (some : has_by
       };
     }
 
+  -- a local without an object
+  nothing-there : Simulates (Ends (fixed at) at.own at.scope at.map at.kept falls_only)
+      (Went (Gives (Falls at.registers) at.state) at.world) (Went (c.Falls at.memory) at.world)
+  nothing-there = record {
+    by = record {
+      value = c.Falls at.memory;
+      run = refl;
+      related = record { after = at.memory; is = refl; stays = record { map = at.map; grows = grows-same at.map; between = h.between } };
+    };
+  }
+
   pub finish-lowered : Lowers at (act (plain.finish t i)) at.kept falls_only
   finish-lowered = by_local (at.state.frame.locals i)
     where
       by_local : (x : Option ℕ)
           → Simulates (Ends (fixed at) at.own at.scope at.map at.kept falls_only)
-          ((some_or x malformed >>= (λ o. destroy (calls at.again) at.program t (root o) >> doing (object_changed o gone)) >> gives (Falls at.registers)) at.state at.world)
+          ((end_local (calls at.again) at.program t x >> gives (Falls at.registers)) at.state at.world)
           (Went (c.Falls at.memory) at.world)
-      by_local None = record { by = tt }
+      by_local None = nothing-there
       by_local (Some o) =
           subst (λ ran. Simulates (Ends (fixed at) at.own at.scope at.map at.kept falls_only)
           (and_then

@@ -298,3 +298,24 @@ module _ (count : ℕ) where
         by_test name p e true q =
             let at : o ≡ p = grind (arith, nat_tests, q) in
             absurd ((h.statics name p e).apart i (there ∙ ap (λ (n : ℕ). Some n) at))
+
+  -- ---- a local without an object ends for nothing
+
+  module _ (s : State) (i : ℕ) (none : s.frame.locals i ≡ None) (g : Registers) where
+    all-but : (xs : List Opened) → AllOpen count xs g s → AllOpen count (closed i xs) g s
+    all-but [] h = tt
+    all-but (x ∷ xs) h = by_test (all-but xs h.1) (x.local == i)
+      where
+        by_test : AllOpen count (closed i xs) g s → (b : Bool) → AllOpen count (if not b then x ∷ closed i xs else closed i xs) g s
+        by_test rest true = rest
+        by_test rest false = (h.0, rest)
+
+    pub open-nothing : (xs : List Opened) → Open count xs g s → Open count (closed i xs) g s
+    open-nothing xs h = record { each = all-but xs h.each; over = λ j p lj fresh e. by_test j p lj fresh e (j == i) refl }
+      where
+        no-object : {p : ℕ} → None ≡ Some p → ⊥
+        no-object e = absurd (let k = e in cc)
+
+        by_test : (j p : ℕ) → j < count → is_open j (closed i xs) ≡ false → s.frame.locals j ≡ Some p → (b : Bool) → j == i ≡ b → (s.object p).is_gone ≡ true
+        by_test j p lj fresh e true q = absurd (no-object (sym none ∙ ap s.frame.locals (sym (same-local j i q)) ∙ e))
+        by_test j p lj fresh e false q = h.over j p lj (open-closed i j q xs fresh) e

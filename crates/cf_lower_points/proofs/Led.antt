@@ -1,5 +1,5 @@
 -- Where plain statements that are no control lead to: what they make of the frame, and which locals stand behind them.
-use Rattle.std.proofs.Common.{◌≡◌, ℕ, zero, suc, ◌<◌, nat_lt, Bool, true, false, ◌&&◌, ◌||◌, ◌==◌, if◌then◌else◌, List, [], ◌∷◌, refl, sym, ◌∙◌, ap, subst, arith, ◌⊎◌, inl, inr}
+use Rattle.std.proofs.Common.{◌≡◌, ℕ, zero, suc, ◌<◌, nat_lt, Bool, true, false, ◌==◌, if◌then◌else◌, List, [], ◌∷◌, refl, sym, ◌∙◌, ap, subst, arith, ◌⊎◌, inl, inr}
 use Rattle.std.specs.Prelude.{ℤ, Option, Some, None, map}
 use Rattle.std.proofs.lemmas.Bool.Decides.{nat_tests}
 use Rattle.cf_base.proofs.Tests.{both}
@@ -10,13 +10,13 @@ use Rattle.cf_core.specs.Store as source
 use Rattle.cf_core.specs.Store.{hold}
 use Rattle.cf_core.specs.Run.{State, Did, onward, ◌>>=◌, ◌>>◌, gives, malformed, valid, some_or, when, declared_object, frame_changed, lists_local, object_changed, gone}
 use Rattle.cf_core.specs.Access.{place_type, used, place_of, first_value}
-use Rattle.cf_core.specs.Calls.{root, destroy}
+use Rattle.cf_core.specs.Calls.{root}
 use Rattle.cf_core.specs.Objects.{static_number, settle}
 use Rattle.cf_lower_layout.specs.Layout.{has_bytes, const_once}
 use Rattle.cf_lower_actions.proofs.LowerObjects.{destroyed}
 use Rattle.cf_plain.specs.Plain as plain
 use Rattle.cf_plain.specs.Plain.{Register, Action, Plain, act, set, give}
-use Rattle.cf_plain.specs.Acts.{Registers, doing, held, used_in, acts}
+use Rattle.cf_plain.specs.Acts.{Registers, doing, held, used_in, end_local, acts}
 use Rattle.cf_plain.specs.Running.{Flow, Falls, Breaks, Continues, Returns, Again, calls, keep, does}
 use Rattle.cf_plain_frames.specs.Since.{HasValue}
 use Rattle.cf_plain_frames.proofs.Values.{keeps-used_in}
@@ -29,7 +29,7 @@ use Rattle.cf_lower_actions.specs.Leaf as leaf
 use Rattle.cf_lower_bounds.specs.Points.{Standing, never, these, Open, StandsAs, InFrame, local_count}
 use Rattle.cf_lower_points.specs.Leading.{leads_on, standing_behind}
 use Rattle.cf_lower_points.proofs.Before.{starts-as, BegunAs, PartAs, declared-below, declared-once}
-use Rattle.cf_lower_points.proofs.Beginning.{open-declared, frame-declared, open-finished, frame-finished}
+use Rattle.cf_lower_points.proofs.Beginning.{open-declared, frame-declared, open-finished, frame-finished, open-nothing}
 use Rattle.cf_lower_points.proofs.Indexed.{decay-gives, index-gives}
 use Rattle.cf_lower_points.proofs.Placed.{GivesFirst, GivesFurther, first-parts, further-parts}
 use Rattle.cf_lower_points.proofs.Quiet.{is_quiet, quiet-opens}
@@ -253,8 +253,8 @@ module _ (z : Scene) (again : Again) (gk : told.Keeping) (h : Keeping) (xs : Lis
   module _ (i : ℕ) (t : SourceType) (lt : i < local_count z) (some : has_bytes t ≡ true) where
     by-local : (x : Option ℕ) → s.frame.locals i ≡ x
         → Given (Behind z (these (closed i xs)))
-        (((some_or x malformed >>= (λ o. destroy (calls again) z.program t (root o) >> doing (object_changed o gone))) >> gives (Falls g)) s w)
-    by-local None e = record { by = tt }
+        ((end_local (calls again) z.program t x >> gives (Falls g)) s w)
+    by-local None e = record { by = (frame, open-nothing (local_count z) s i e g xs open_here) }
     by-local (Some o) e =
         subst (λ ran. Given (Behind z (these (closed i xs)))
         (and_then (and_then ran (λ did w. onward did (λ u. doing (object_changed o gone)) w)) (λ did w. onward did (λ u. gives (Falls g)) w)))

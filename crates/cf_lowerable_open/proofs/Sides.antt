@@ -3,8 +3,8 @@ use Rattle.std.proofs.Common.{◌≡◌, ℕ, zero, suc, ◌+◌, ◌<◌, ◌�
 use Rattle.std.specs.Prelude.{slice_set}
 use Rattle.std.proofs.lemmas.Bool.Decides.{nat_tests}
 use Rattle.std.proofs.lemmas.List.{at_drop_all}
-use Rattle.cf_lower_kept.specs.Opened.{Opened, same_locals, same_open, as_open}
-use Rattle.cf_lowerable_open.specs.Lists.{partly, same_at, open_at}
+use Rattle.cf_lower_kept.specs.Opened.{Opened, same_open, as_open}
+use Rattle.cf_lowerable_open.specs.Lists.{partly, open_at}
 
 module _ {A : Type 0} (f : A → A) where
   pub partly_all : (xs : List A) (n : ℕ) → length xs ≤ n → partly f n xs ≡ map f xs
@@ -50,13 +50,6 @@ and_second : (a b : Bool) → a ≡ true → b ≡ (a && b)
 and_second true b e = refl
 and_second false b e = absurd (cc)
 
-locals_at : (xs ys : List Opened) (i : ℕ) → i < length xs → length xs ≡ length ys
-    → same_locals (drop i xs) (drop i ys) ≡ (same_at xs ys i && same_locals (drop (suc i) xs) (drop (suc i) ys))
-locals_at [] ys i lt long = absurd (omega arith)
-locals_at (x ∷ xs) [] i lt long = absurd (omega arith)
-locals_at (x ∷ xs) (y ∷ ys) zero lt long = refl
-locals_at (x ∷ xs) (y ∷ ys) (suc i) lt long = locals_at xs ys i (omega arith) (omega arith)
-
 split_and : (a b d : Bool) → (a && (b && d)) ≡ ((a && b) && d)
 split_and true b d = refl
 split_and false b d = refl
@@ -73,20 +66,11 @@ and_no true b e = e
 and_no false b e = refl
 
 -- lists of which one is longer are not alike
-locals_long : (xs ys : List Opened) → (length xs ≡ length ys → ⊥) → false ≡ same_locals xs ys
-locals_long [] [] ne = absurd (ne refl)
-locals_long [] (y ∷ ys) ne = refl
-locals_long (x ∷ xs) [] ne = refl
-locals_long (x ∷ xs) (y ∷ ys) ne = and_no (x.local == y.local) _ (locals_long xs ys (λ e. ne (ap suc e)))
-
 open_long : (xs ys : List Opened) → (length xs ≡ length ys → ⊥) → false ≡ same_open xs ys
 open_long [] [] ne = absurd (ne refl)
 open_long [] (y ∷ ys) ne = refl
 open_long (x ∷ xs) [] ne = refl
 open_long (x ∷ xs) (y ∷ ys) ne = and_no (x.local == y.local) _ (and_no (as_open x.stands y.stands) _ (open_long xs ys (λ e. ne (ap suc e))))
-
-pub locals_longer : (xs ys : List Opened) (b : Bool) → b ≡ (length xs == length ys) → b ≡ false → false ≡ same_locals xs ys
-locals_longer xs ys b is e = locals_long xs ys (other_number (length xs) (length ys) (sym is ∙ e))
 
 pub open_longer : (xs ys : List Opened) (b : Bool) → b ≡ (length xs == length ys) → b ≡ false → false ≡ same_open xs ys
 open_longer xs ys b is e = open_long xs ys (other_number (length xs) (length ys) (sym is ∙ e))
@@ -94,14 +78,6 @@ open_longer xs ys b is e = open_long xs ys (other_number (length xs) (length ys)
 module _ (xs ys : List Opened) (i : ℕ) (lt : i < length xs) (long : length xs ≡ length ys) (b : Bool) where
   one : suc i ≡ i + 1
   one = omega arith
-
-  pub locals_stop : b ≡ same_at xs ys i → b ≡ false → same_locals (drop i xs) (drop i ys) ≡ same_locals xs ys → false ≡ same_locals xs ys
-  locals_stop is e inv = and_first _ _ (sym is ∙ e) ∙ sym (locals_at xs ys i lt long) ∙ inv
-
-  pub locals_next : b ≡ same_at xs ys i → b ≡ true → same_locals (drop i xs) (drop i ys) ≡ same_locals xs ys
-      → same_locals (drop (i + 1) xs) (drop (i + 1) ys) ≡ same_locals xs ys
-  locals_next is e inv =
-      sym (ap (λ n. same_locals (drop n xs) (drop n ys)) one) ∙ and_second _ _ (sym is ∙ e) ∙ sym (locals_at xs ys i lt long) ∙ inv
 
   pub open_stop : b ≡ open_at xs ys i → b ≡ false → same_open (drop i xs) (drop i ys) ≡ same_open xs ys → false ≡ same_open xs ys
   open_stop is e inv = and_first _ _ (sym is ∙ e) ∙ sym (opens_at xs ys i lt long) ∙ inv
@@ -111,9 +87,5 @@ module _ (xs ys : List Opened) (i : ℕ) (lt : i < length xs) (long : length xs 
   open_next is e inv = sym (ap (λ n. same_open (drop n xs) (drop n ys)) one) ∙ and_second _ _ (sym is ∙ e) ∙ sym (opens_at xs ys i lt long) ∙ inv
 
 module _ (xs ys : List Opened) (i : ℕ) (past : length xs ≤ i) (long : length xs ≡ length ys) where
-  pub locals_end : same_locals (drop i xs) (drop i ys) ≡ same_locals xs ys → true ≡ same_locals xs ys
-  locals_end inv =
-      sym (at_drop_all (λ l. same_locals l (drop i ys)) xs i past ∙ at_drop_all (λ l. same_locals [] l) ys i (omega (arith, past, long))) ∙ inv
-
   pub open_end : same_open (drop i xs) (drop i ys) ≡ same_open xs ys → true ≡ same_open xs ys
   open_end inv = sym (at_drop_all (λ l. same_open l (drop i ys)) xs i past ∙ at_drop_all (λ l. same_open [] l) ys i (omega (arith, past, long))) ∙ inv

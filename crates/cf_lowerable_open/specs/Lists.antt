@@ -30,9 +30,6 @@ abbrev pub both_there : (Opened → Opened → Bool) → Option Opened → Optio
 both_there test (Some x) (Some y) = test x y
 both_there test x y = false
 
-abbrev pub same_at : List Opened → List Opened → ℕ → Bool
-same_at xs ys i = both_there (λ x y. x.local == y.local) (slice_get xs i) (slice_get ys i)
-
 abbrev pub open_at : List Opened → List Opened → ℕ → Bool
 open_at xs ys i = both_there alike (slice_get xs i) (slice_get ys i)
 

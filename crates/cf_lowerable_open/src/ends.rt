@@ -1,12 +1,11 @@
 //! What is open where statements end.
 
-ghost use Rattle.std.specs.Prelude.{◌≡◌, ◌++◌, IfOk, OnOk};
+ghost use Rattle.std.specs.Prelude.{◌≡◌, ◌++◌, filter, map, IfOk, OnOk};
 ghost use Rattle.cf_lower_kept.specs.Opened as spec;
-ghost use Rattle.cf_lower_kept.specs.Opened.{falls};
-ghost use Rattle.cf_lowerable_open.specs.Told.{all_told};
+ghost use Rattle.cf_lowerable_open.specs.Told.{all_told, told};
 ghost use Rattle.cf_lowerable_open.specs.Views.{items_of, where_of};
 
-use crate::lists::{same_locals, same_open};
+use crate::lists::{is_listed, same_open};
 use crate::opened::Opened;
 use cf_base::Memory;
 use std::alloc::Global;
@@ -22,45 +21,53 @@ pub enum Where {
     Wrong,
 }
 
-/// Puts what is so on both of two ways behind others.
-fn add_both(
+/// What is so of a local of one way behind both, where these are the other's.
+fn met(alloc: Global, x: &Opened, others: &[Opened]) -> Result<Opened, Memory>
+    ensures { IfOk result (λ made. told made ≡ spec.met_one (all_told others.now) (told x.now)) }
+{
+    for y in others {
+        if y.is(x.local) {
+            return x.both(alloc, y);
+        }
+    }
+    Ok(x.one_way(alloc))
+}
+
+/// What is so of the locals of one way behind both.
+fn all_met(alloc: Global, left: &[Opened], right: &[Opened]) -> Result<Vec<Opened>, Memory>
+    ensures { IfOk result (λ made. all_told made.items ≡ map (spec.met_one (all_told right.now)) (all_told left.now)) }
+{
+    let mut made = Vec::new(alloc);
+    for x in left {
+        made.push(met(alloc, x, right)?)?;
+    }
+    Ok(made)
+}
+
+/// Puts what is so of the locals of the other way alone behind others.
+fn add_left_out(
     alloc: Global,
     left: &[Opened],
     right: &[Opened],
     made: &mut Vec<Opened>,
 ) -> Result<(), Memory>
-    ensures { OnOk result (all_told made.new.items ≡ all_told made.old.items ++ spec.both_opened (all_told left.now) (all_told right.now)) }
+    ensures { OnOk result (all_told made.new.items ≡ all_told made.old.items ++ map spec.one_way (filter (spec.is_left_out (all_told left.now)) (all_told right.now))) }
 {
-    match left.split_first() {
-        None => Ok(()),
-        Some((x, xs)) => match right.split_first() {
-            None => Ok(()),
-            Some((y, ys)) => {
-                made.push(x.both(alloc, y)?)?;
-                add_both(alloc, xs, ys, made)
-            }
-        },
+    for y in right {
+        if !is_listed(y.local, left) {
+            made.push(y.one_way(alloc))?;
+        }
     }
+    Ok(())
 }
 
-/// What is so on both of two ways, on which the same locals are listed.
+/// What is so behind two ways.
 fn both(alloc: Global, left: &[Opened], right: &[Opened]) -> Result<Vec<Opened>, Memory>
     ensures { IfOk result (λ made. all_told made.items ≡ spec.both_opened (all_told left.now) (all_told right.now)) }
 {
-    let mut made = Vec::new(alloc);
-    add_both(alloc, left, right, &mut made)?;
+    let mut made = all_met(alloc, left, right)?;
+    add_left_out(alloc, left, right, &mut made)?;
     Ok(made)
-}
-
-/// What is open behind two ways that fall through.
-fn met(alloc: Global, left: Vec<Opened>, right: Vec<Opened>) -> Result<Where, Memory>
-    ensures { IfOk result (λ place. where_of place ≡ spec.joined (falls (all_told left.items)) (falls (all_told right.items))) }
-{
-    if same_locals(left.as_slice(), right.as_slice()) {
-        Ok(Where::Falls(both(alloc, left.as_slice(), right.as_slice())?))
-    } else {
-        Ok(Where::Wrong)
-    }
 }
 
 /// What is open behind two ways.
@@ -68,7 +75,9 @@ pub fn joined(alloc: Global, left: Where, right: Where) -> Result<Where, Memory>
     ensures { IfOk result (λ place. where_of place ≡ spec.joined (where_of left) (where_of right)) }
 {
     match (left, right) {
-        (Where::Falls(left), Where::Falls(right)) => met(alloc, left, right),
+        (Where::Falls(left), Where::Falls(right)) => {
+            Ok(Where::Falls(both(alloc, left.as_slice(), right.as_slice())?))
+        }
         (Where::Falls(left), Where::Away) => Ok(Where::Falls(left)),
         (Where::Away, Where::Falls(right)) => Ok(Where::Falls(right)),
         (Where::Away, Where::Away) => Ok(Where::Away),

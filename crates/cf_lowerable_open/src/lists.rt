@@ -192,16 +192,6 @@ fn same_length(left: &[Opened], right: &[Opened]) -> bool
     left.len() == right.len()
 }
 
-/// Whether the same local stands at an index of both.
-fn same_at(left: &[Opened], right: &[Opened], index: usize) -> bool
-    ensures { result ≡ walk.same_at (all_told left.now) (all_told right.now) index }
-{
-    match (left.get(index), right.get(index)) {
-        (Some(x), Some(y)) => x.is_same(y),
-        _ => false,
-    }
-}
-
 /// Whether the same is told of the same local at an index of both.
 fn open_at(left: &[Opened], right: &[Opened], index: usize) -> bool
     ensures { result ≡ walk.open_at (all_told left.now) (all_told right.now) index }
@@ -210,21 +200,6 @@ fn open_at(left: &[Opened], right: &[Opened], index: usize) -> bool
         (Some(x), Some(y)) => x.is_as_open(y),
         _ => false,
     }
-}
-
-/// Whether the same locals are listed.
-pub fn same_locals(left: &[Opened], right: &[Opened]) -> bool
-    ensures { result ≡ spec.same_locals (all_told left.now) (all_told right.now) }
-{
-    if !same_length(left, right) {
-        return false;
-    }
-    for index in 0..left.len() {
-        if !same_at(left, right, index) {
-            return false;
-        }
-    }
-    true
 }
 
 /// Whether the same locals stand.

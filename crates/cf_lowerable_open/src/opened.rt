@@ -299,11 +299,20 @@ impl Opened {
         })
     }
 
-    /// Whether it is the same local.
-    pub fn is_same(&self, other: &Opened) -> bool
-        ensures { result ≡ ((told self.now).local == (told other.now).local) }
+    /// What is so of it behind two ways, of which the other tells nothing of it.
+    pub fn one_way(&self, alloc: Global) -> Opened
+        ensures { told result ≡ spec.one_way (told self.now) }
     {
-        self.local == other.local
+        Opened {
+            local: self.local,
+            begun: None,
+            has_value: false,
+            stands: same_stand(self.stands, Some(false)),
+            flag: None,
+            is_told: false,
+            places: Vec::new(alloc),
+            last: None,
+        }
     }
 
     /// Whether it is the same local, of which the same is told.

@@ -1,3 +1,4 @@
+pub mod Mains
 pub mod Meanings
 pub mod Runs
 pub mod Units

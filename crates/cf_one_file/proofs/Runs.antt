@@ -16,7 +16,7 @@ use Rattle.cf_sequence_unit.specs.Sequences.{AreSequenced}
 use Rattle.cf_one_file.specs.Means.{LowerableFileMeans}
 
 -- a text has one unit
-abbrev OneUnit : Type 0
+abbrev pub OneUnit : Type 0
 OneUnit = (text : List ℕ) (u v : CUnit) → Text text u → Text text v → u ≡ v
 
 -- a lowered file and the program of its unit alone agree
@@ -39,11 +39,15 @@ agrees-before : (kept meant : Option Outcome) (end : Outcome) → ((x : Outcome)
 agrees-before kept None end keeps agrees = tt
 agrees-before kept (Some x) end keeps agrees = subst (λ o. AgreesWith o end) (keeps x refl) agrees
 
+-- what such a text runs is what this unit links to by itself
+pub linked-alone : OneUnit → (text : List ℕ) (unit : CUnit) → Text text unit → (units : List CUnit) (program : CProgram) → AreTexts (text ∷ []) units → Links units (Ok program)
+    → Links (unit ∷ []) (Ok program)
+linked-alone one text unit spelled units program read links = subst (λ us. Links us (Ok program)) (only-unit one text unit spelled units read) links
+
 pub text-means : OneUnit → OneFileAgrees → UnitsKeep → LowerableFileMeans
 text-means one agrees keep core unit text valid translated lowerable input bytes heap depth n end m =
     let file = plain.file_of translated.made in
-    let linked : Links (unit ∷ []) (Ok m.program) =
-    subst (λ us. Links us (Ok m.program)) (only-unit one text unit (translated.is_text lowerable).spelled m.units m.read) m.linked in
+    let linked = linked-alone one text unit (translated.is_text lowerable).spelled m.units m.program m.read m.linked in
     agrees-before (files_mean (file ∷ []) input heap depth n) (units_mean (core ∷ []) input heap depth n) end
     (keep (core ∷ []) (translated.made ∷ []) (valid, translated.sequenced, tt) input heap depth n)
     (subst (AgreesWith (files_mean (file ∷ []) input heap depth n)) (sym m.runs) (agrees file unit m.program lowerable translated.lowered linked input bytes heap depth n))

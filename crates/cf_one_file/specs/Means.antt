@@ -1,11 +1,13 @@
 -- What the runs of a file's C text do, by what the file's core means.
-use Rattle.std.specs.Prelude.{◌≡◌, ℕ, true, List, [], ◌∷◌, Some}
+use Rattle.std.specs.Prelude.{◌≡◌, ℕ, true, List, [], ◌∷◌, Some, Ok}
 use Rattle.cf_base.specs.Agree.{Agree}
 use Rattle.cf_base.specs.World.{Outcome}
+use Rattle.cc_whole.specs.declared.unit.CProgram.{CProgram}
 use Rattle.cc_whole.specs.declared.unit.CUnit.{CUnit}
+use Rattle.cc_whole_link.specs.Link.{Links}
 use Rattle.cc_whole_outcome.specs.CMean.{CMean}
 use Rattle.cf_core.specs.FromUnit.{Unit as CoreUnit, IsValid, file_of, units_mean}
-use Rattle.cf_file_sound.specs.Files.{is_sound_file}
+use Rattle.cf_file_sound.specs.Files.{has_main, is_sound_file}
 use Rattle.cf_lower_place.specs.Input.{IsInput}
 use Rattle.cf_lower_program.specs.Agrees.{AgreesWith}
 use Rattle.cf_lower_program.specs.Lowerable.{Lowerable}
@@ -44,12 +46,24 @@ abbrev pub TextRunsAsMeant : CoreUnit → List ℕ → Type 0
 TextRunsAsMeant core text =
     (input : List ℕ) → IsInput input → (heap depth n : ℕ) (end : Outcome) → CMean (text ∷ []) input heap depth n end → IsMeant core input heap depth n end
 
+-- The file is sound if it has a `main`. A file without one has no meaning, and its text links to no program.
+abbrev pub IsSound : CoreUnit → Type 0
+IsSound core = has_main (file_of core) ≡ true → is_sound_file (file_of core) ≡ true
+
 abbrev pub LowerableFileRunsAsMeant : Type 0
 LowerableFileRunsAsMeant =
     (core : CoreUnit) (unit : CUnit) (text : List ℕ) → IsValid core → (translated : Translates core unit text) → Lowerable (plain.file_of translated.made)
-    → is_sound_file (file_of core) ≡ true → TextRunsAsMeant core text
+    → IsSound core → TextRunsAsMeant core text
 
 abbrev pub OneFileRunsAsMeant : Type 0
 OneFileRunsAsMeant =
     (core : CoreUnit) (unit : CUnit) (text : List ℕ) → IsValid core → Translates core unit text → Covered core
-    → is_sound_file (file_of core) ≡ true → TextRunsAsMeant core text
+    → IsSound core → TextRunsAsMeant core text
+
+-- ---- what links has a `main`
+
+-- the unit of a lowered file links by itself to a program only where the file has a `main`
+abbrev pub LinkedFilesHaveMain : Type 0
+LinkedFilesHaveMain =
+    (core : CoreUnit) (unit : CUnit) (text : List ℕ) (program : CProgram) → IsValid core → (translated : Translates core unit text)
+    → Lowerable (plain.file_of translated.made) → Links (unit ∷ []) (Ok program) → has_main (file_of core) ≡ true

@@ -9,7 +9,7 @@ ghost use Rattle.cf_sequence.specs.Built.{is_built_file};
 ghost use Rattle.cf_sequence_built.specs.Unbuilt.{in_file};
 ghost use Rattle.cf_sequence_unit.specs.Sequences.{Sequences};
 ghost use Rattle.cf_one_file.specs.Covered.{Covered};
-ghost use Rattle.cf_one_file.specs.Means.{LowerableFileMeans, OneFileMeans, LowerableFileRunsAsMeant, OneFileRunsAsMeant};
+ghost use Rattle.cf_one_file.specs.Means.{LowerableFileMeans, OneFileMeans, LinkedFilesHaveMain, LowerableFileRunsAsMeant, OneFileRunsAsMeant};
 
 use cc_whole_read::text_has_one_unit;
 use cf_file_sound::one_file_is_sound;
@@ -52,13 +52,21 @@ pub fn inputs_are_of_bytes()
     ensures { (input : List ℕ) → IsInput input → OfBytes input }
 {}
 
-/// The law that a text for a sound core whose plain file is lowered runs as the core means: there is a meaning, and the run agrees with it. It does nothing.
+/// The law that the unit of a core whose plain file is lowered links by itself to a program only where the core's file has a `main` that is not local to it (3.4). It does nothing.
+pub fn linked_files_have_main()
+    ensures { LinkedFilesHaveMain }
+{}
+
+/// The law that a text for a core whose plain file is lowered, and which is sound if it has a `main`, runs as the core means: there is a meaning, and the run agrees with it.
+/// A text that runs is linked, so there is a `main`. It does nothing.
 pub fn lowerable_file_runs_as_meant()
     ensures { LowerableFileRunsAsMeant }
 {
+    text_has_one_unit();
     inputs_are_of_bytes();
     lowerable_file_means();
     one_file_is_sound();
+    linked_files_have_main();
 }
 
 /// The same law of a core that is covered. It does nothing.

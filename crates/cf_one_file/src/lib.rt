@@ -6,6 +6,7 @@
 mod laws;
 
 pub use laws::{
-    built_cores_have_built_files, covered_is_lowerable, inputs_are_of_bytes, lowerable_file_means,
-    lowerable_file_runs_as_meant, one_file_means, one_file_runs_as_meant,
+    built_cores_have_built_files, covered_is_lowerable, inputs_are_of_bytes,
+    linked_files_have_main, lowerable_file_means, lowerable_file_runs_as_meant, one_file_means,
+    one_file_runs_as_meant,
 };

@@ -1,7 +1,7 @@
 -- What an action does and gives, in the words of the core's meaning.
 use Rattle.std.specs.Prelude.{ℕ, true, false, not, nat_le, length, List, [], ◌∷◌, Option, Some, None, bytes_eq}
 use Rattle.std.specs.List.{list_any}
-use Rattle.cf_core.specs.Types.{is_array, array}
+use Rattle.cf_core.specs.Types.{SourceType, is_array, array}
 use Rattle.cf_core.specs.Core.{item}
 use Rattle.cf_core.specs.Places.{Place, inner}
 use Rattle.cf_core.specs.Store.{Value, Nothing, Number, At, Code, DataMember, FunctionMember}
@@ -48,6 +48,11 @@ objects_of (i ∷ is) = do
 -- a step that gives nothing
 abbrev pub doing : {A : Type 0} → Act A → Act Value
 doing act = act >>= (λ _. gives Nothing)
+
+-- The object of a local ends, if the local has one.
+abbrev pub end_local : Again → Program → SourceType → Option ℕ → Act Value
+end_local again P t None = gives Nothing
+end_local again P t (Some o) = destroy again P t (root o) >> doing (object_changed o gone)
 
 module _ (again : Again) (P : Program) (g : Registers) where
   abbrev pub acts : Action → Act Value
@@ -129,10 +134,7 @@ module _ (again : Again) (P : Program) (g : Registers) where
     place_has P.classes t to
     place_has P.classes t from
     doing (copy_over P.classes from to)
-  acts (finish t i) = do
-    o ← object_of i
-    destroy again P t (root o)
-    doing (object_changed o gone)
+  acts (finish t i) = state >>= (λ s. end_local again P t (s.frame.locals i))
   acts (new t) = new_storage P false t (λ o. gives (At (root o)))
   acts (new_array t r) = do
     n ← used_in g r >>= count_of

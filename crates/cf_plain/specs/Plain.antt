@@ -53,7 +53,7 @@ pub data Action : Type 0 where
   end_list : Register → Action
   carry : SourceType → Register → Register → Action  -- to a place, memberwise, as its first value (12.8)
   carry_over : SourceType → Register → Register → Action  -- over what stands there
-  finish : SourceType → ℕ → Action  -- a local is destroyed, and its storage ends (6.6)
+  finish : SourceType → ℕ → Action  -- the object of a local, if it has one, is destroyed, and its storage ends (6.6)
   new : SourceType → Action  -- storage for an object, or null (5.3.3)
   new_array : SourceType → Register → Action  -- for so many elements
   delete : Bool → SourceType → Register → Action  -- in the form for arrays where true (5.3.4)

@@ -15,7 +15,7 @@ use Rattle.cf_core.specs.Access.{place_type, used, names_scalar, use_place, writ
 use Rattle.cf_core.specs.Calls as core
 use Rattle.cf_core.specs.Calls.{Program, root, destroy, by_destructor, has_destructor, function_named, is_library, byte_value, get, put, leave_with, argument, run_library, call_library, frame_of, local_count, returned, enter, enter_found, run_named, name_function}
 use Rattle.cf_core.specs.Objects.{found_literal, literal_object, new_local, settle, write_bytes, run_pointer}
-use Rattle.cf_plain.specs.Acts.{object_of, objects_of, doing}
+use Rattle.cf_plain.specs.Acts.{object_of, objects_of, doing, end_local}
 use Rattle.cf_plain.specs.Running.{Again, entered, calls}
 use Rattle.cf_plain_finished.specs.Finished.{Always, Keeps, NoneFinished}
 use Rattle.cf_plain_finished.proofs.Acts.{keeps-gives, keeps-malformed, keeps-undefined, keeps-need, keeps-next, keeps-then, keeps-some, keeps-valid, keeps-when, keeps-at}
@@ -101,11 +101,14 @@ module _ (again : core.Again) (P : Program) (none : P.classes ≡ []) where
   keeps-destroy (function_member c t) p = keeps-gives Q tt
   keeps-destroy (const t) p = keeps-destroy t p
 
-  pub keeps-finish : (t : SourceType) (i : ℕ) → Keeps Q (object_of i >>= (λ o. destroy again P t (root o) >> doing (object_changed o gone)))
-  keeps-finish t i =
-      keeps-then Q (object_of i) (λ o. destroy again P t (root o) >> doing (object_changed o gone)) (keeps-object Q i)
-      (λ o. keeps-next Q (destroy again P t (root o)) (doing (object_changed o gone)) (keeps-destroy t (root o))
-      (keeps-then Q (object_changed o gone) (λ _. gives Nothing) (keeps-object_changed o gone) (λ _. keeps-gives Q Nothing)))
+  pub keeps-finish : (t : SourceType) (i : ℕ) → Keeps Q (state >>= (λ s. end_local again P t (s.frame.locals i)))
+  keeps-finish t i = keeps-at Q _ (λ s. by_local (s.frame.locals i))
+    where
+      by_local : (x : Option ℕ) → Keeps Q (end_local again P t x)
+      by_local None = keeps-gives Q Nothing
+      by_local (Some o) =
+          keeps-next Q (destroy again P t (root o)) (doing (object_changed o gone)) (keeps-destroy t (root o))
+          (keeps-then Q (object_changed o gone) (λ _. gives Nothing) (keeps-object_changed o gone) (λ _. keeps-gives Q Nothing))
 
 keeps-objects : (is : List ℕ) → Keeps Q (objects_of is)
 keeps-objects [] = keeps-gives Q []

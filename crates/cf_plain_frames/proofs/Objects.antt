@@ -14,7 +14,7 @@ use Rattle.cf_core.specs.Run.{Literal, State, ◌>>=◌, ◌>>◌, malformed, st
 use Rattle.cf_core.specs.Access.{place_type, used, names_scalar, use_place, write_place, first_value, fill_zeros}
 use Rattle.cf_core.specs.Calls.{Program, Again, root, destroy, by_destructor, has_destructor}
 use Rattle.cf_core.specs.Objects.{literal_of, found_literal, literal_object, new_local, settle, write_bytes}
-use Rattle.cf_plain.specs.Acts.{object_of, doing}
+use Rattle.cf_plain.specs.Acts.{doing, end_local}
 use Rattle.cf_plain_frames.specs.Since.{is_among, IsOwn, HasValue, Since, Always, Keeps}
 use Rattle.cf_plain_frames.proofs.Acts.{keeps-then, keeps-next, keeps-gives, keeps-malformed, keeps-need, keeps-valid, keeps-some, keeps-when, keeps-at}
 use Rattle.cf_plain_frames.proofs.Values.{keeps-used, keeps-names, keeps-use}
@@ -237,11 +237,11 @@ module _ (e : State) (os : List ℕ) where
     destroys-nothing (function_member c t) p = refl
     destroys-nothing (const t) p = destroys-nothing t p
 
-    pub keeps-finish : (t : SourceType) (i : ℕ) → Keeps Q (object_of i >>= (λ o. destroy again P t (root o) >> doing (object_changed o gone)))
+    pub keeps-finish : (t : SourceType) (i : ℕ) → Keeps Q (state >>= (λ s. end_local again P t (s.frame.locals i)))
     keeps-finish t i = record { by = λ s w h. by_local s w h (s.frame.locals i) refl }
       where
         by_local : (s : State) (w : World) → Q s → (x : Option ℕ) → s.frame.locals i ≡ x
-            → Always Q ((some_or x malformed >>= (λ o. destroy again P t (root o) >> doing (object_changed o gone))) s w)
-        by_local s w h None k = record { by = tt }
+            → Always Q (end_local again P t x s w)
+        by_local s w h None k = record { by = h }
         by_local s w h (Some o) k =
             subst (λ act. Always Q ((act >> doing (object_changed o gone)) s w)) (sym (destroys-nothing t (root o))) (record { by = ended-since s o (h.locals i o k) h })

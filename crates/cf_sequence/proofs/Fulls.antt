@@ -31,7 +31,7 @@ use Rattle.cf_sequence.proofs.Calling.{Bodies, never}
 use Rattle.cf_sequence.proofs.Kept.{Kept, Ready, Valued, keep-same, keep-other, keep-again}
 use Rattle.cf_sequence.proofs.Temporaries.{objects, objects-reverse, Unset, Listed, listed-reverse, listing, Begins, Grown, grown-set}
 use Rattle.cf_sequence.proofs.Placing.{placing}
-use Rattle.cf_sequence.proofs.Moving.{all_gone, gone-same, ends-all, finished-steps}
+use Rattle.cf_sequence.proofs.Moving.{Later, later-gone, all_gone, held-more, gone-same, ends-all, finished-steps}
 use Rattle.cf_sequence.proofs.PlainSteps.{Usable, runs_on, set-steps, use-steps, truth-steps, branch-steps}
 use Rattle.cf_sequence.proofs.Operands.{H}
 use Rattle.cf_sequence.proofs.Parts.{first-steps, value-gives}
@@ -99,9 +99,11 @@ module _ (again : running.Again) (H : Program) (classless : H.classes ≡ []) (A
   end-one t ts o s at flagged next true =
       let K1 : Flow → Act B = λ flow. falling (λ g. all again H (ended x ts rest) g) flow >>= K in
       branch-steps again H true (flag x t.local.number) (finished (t.local ∷ []) nothing) nothing (ended x ts rest) h K y (with_frame f s) w flagged
-      (finished-steps again H classless A B S (t.local ∷ []) (o ∷ []) (suc t.local.number) nothing h K1 y s f w (at, (omega arith), tt) next)
+      (finished-steps again H classless A B S (t.local ∷ []) (o ∷ []) (suc t.local.number) nothing h K1 y s f w
+      (held-more s f.locals (suc t.local.number) t.local [] o [] at (omega arith) refl) next)
   end-one t ts o s at flagged next false =
-      finished-steps again H classless A B S (t.local ∷ []) (o ∷ []) (suc t.local.number) (ended x ts rest) h K y s f w (at, (omega arith), tt) next
+      finished-steps again H classless A B S (t.local ∷ []) (o ∷ []) (suc t.local.number) (ended x ts rest) h K y s f w
+      (held-more s f.locals (suc t.local.number) t.local [] o [] at (omega arith) refl) next
 
   pub ended-steps : (ts : List Temporary) (made : List (Option ℕ)) → Ends ts made
   ended-steps [] [] s listed next = next
@@ -139,7 +141,7 @@ module _ (again : calling.Again) (again' : running.Again) (P : Program) (bodies 
   -- the temporaries of a full expression end on both sides
   pub closing-steps : {V : Type 0} (x : Full) (ts : List Temporary) (made : List (Option ℕ)) (e : Frame) (t : State) (h : Registers) (f : Frame) (w : World) (v : V) (c : V → Act A) (rest : Plains) (K : Flow → Act B)
       → t.frame ≡ listing made (record e { temporaries = [] }) → Listed x h f.locals ts made
-      → ((u : State) → u.frame ≡ e → Follows S (c v u w) (runs_on again' (H again again' P) rest h K (with_frame f u) w))
+      → ((u : State) → u.frame ≡ e → Later t u → Follows S (c v u w) (runs_on again' (H again again' P) rest h K (with_frame f u) w))
       → Follows S (and_then (closing again P e.temporaries v t w) (on c)) (runs_on again' (H again again' P) (ended x (reverse ts) rest) h K (with_frame f t) w)
   closing-steps x ts made e t h f w v c rest K same listed next =
       let os : List ℕ = reverse (objects made) in
@@ -147,7 +149,7 @@ module _ (again : calling.Again) (again' : running.Again) (P : Program) (bodies 
       let y = c v u w in
       subst (λ r. Follows S (and_then r (on c)) (runs_on again' (H again again' P) (ended x (reverse ts) rest) h K (with_frame f t) w)) (sym (all-closed again P classless made e t w v same))
       (ended-steps again' (H again again' P) classless A B S x rest h K y f w (reverse ts) (reverse made) t (listed-reverse x h f.locals ts made listed)
-      (subst (λ ps. Follows S y (runs_on again' (H again again' P) rest h K (with_frame f (all_gone ps t)) w)) (sym (objects-reverse made)) (next u refl)))
+      (subst (λ ps. Follows S y (runs_on again' (H again again' P) rest h K (with_frame f (all_gone ps t)) w)) (sym (objects-reverse made)) (next u refl (let l = later-gone os t in record { next = l.next; gone = l.gone }))))
 
   -- behind the flags its parts begin
   pub begins-whole : (e : Core) → is_value e ≡ true → (n k : ℕ) (g h : Registers) (y f : Frame) (t : List ℕ)
@@ -181,7 +183,7 @@ module _ (again : calling.Again) (again' : running.Again) (P : Program) (bodies 
       (flags-steps again' (H again again' P) A B S x (value P.classes x e into' m k last) K _ (with_frame f s0) w ts g (λ h cleared.
       follow-value again again' P bodies chains A B S e ok false into into' x m k last h s0 f w (λ v. closing again P s.frame.temporaries v >>= c) K
       (begins-whole e ok n k g h s.frame f [] ready room cleared) (λ v t h1 f1 w1 done.
-      closing-steps x ts done.grown.made s.frame t h1 f1 w1 v c (rest m) K done.grown.frame done.grown.listed (λ u same.
+      closing-steps x ts done.grown.made s.frame t h1 f1 w1 v c (rest m) K done.grown.frame done.grown.listed (λ u same later.
       next v u h1 f1 w1 (record { value = done.value; below = λ j lt. done.grown.below j (omega arith) (inl (omega arith)) ∙ cleared.below j lt; frame = same; kept = done.kept })))))
 
   -- a condition: the register holds 1 or 0
@@ -207,7 +209,7 @@ module _ (again : calling.Again) (again' : running.Again) (P : Program) (bodies 
       truth-steps again' (H again again' P) n v h1 done.value (λ b. closing again P s.frame.temporaries b >>= c) last K t (with_frame f1 t) w1 (λ b.
       let grown : Grown x ts n k (k + width e) h s0.frame t (keep h1 n (truth_value b)) f1.locals =
       grown-set false x ts n k (k + width e) n h s0.frame f t h1 f1.locals (truth_value b) begins (omega arith) done.grown in
-      closing-steps x ts grown.made s.frame t (keep h1 n (truth_value b)) f1 w1 b c (rest n) K grown.frame grown.listed (λ u same.
+      closing-steps x ts grown.made s.frame t (keep h1 n (truth_value b)) f1 w1 b c (rest n) K grown.frame grown.listed (λ u same later.
       next b u (keep h1 n (truth_value b)) f1 w1 (keep-same n h1 (truth_value b)) same done.kept))))))
 
   -- a value that is used
@@ -230,7 +232,7 @@ module _ (again : calling.Again) (again' : running.Again) (P : Program) (bodies 
       follow-value again again' P bodies chains A B S e ok false None None x n k (use_of n last) h s0 f w
       (λ v. used v >>= (λ v. closing again P s.frame.temporaries v >>= c)) K (begins-whole e ok 0 k g h s.frame f [] ready room cleared) (λ v t h1 f1 w1 done.
       use-steps again' (H again again' P) n v h1 done.value (λ v. closing again P s.frame.temporaries v >>= c) last K t (with_frame f1 t) w1 (λ usable.
-      closing-steps x ts done.grown.made s.frame t h1 f1 w1 v c (rest n) K done.grown.frame done.grown.listed (λ u same.
+      closing-steps x ts done.grown.made s.frame t h1 f1 w1 v c (rest n) K done.grown.frame done.grown.listed (λ u same later.
       next v u h1 f1 w1 usable done.value same done.kept))))))
 
   -- an initialiser of the place in a register: its value is stored before its temporaries end
@@ -257,4 +259,4 @@ module _ (again : calling.Again) (again' : running.Again) (P : Program) (bodies 
       subst (λ b. Follows S (and_then (settle P.classes q v t w1) (on closes))
       (runs_on again' (H again again' P) (if b then last else more (act (plain.first n m)) last) h1 K (with_frame f1 t) w1)) (sym (value-gives again again' P bodies chains A B S e ok))
       (first-steps again again' P bodies chains A B S n m q v h1 last closes K t f1 w1 (below n (omega arith) ∙ at) done.value (λ t1 same.
-      closing-steps x ts done.grown.made s.frame t1 h1 f1 w1 tt c rest K (same ∙ done.grown.frame) done.grown.listed (λ t2 same2. next t2 h1 f1 w1 same2 done.kept below)))))))
+      closing-steps x ts done.grown.made s.frame t1 h1 f1 w1 tt c rest K (same ∙ done.grown.frame) done.grown.listed (λ t2 same2 later. next t2 h1 f1 w1 same2 done.kept below)))))))

@@ -217,8 +217,8 @@ module _ (again : running.Again) (H : Program) (P : Program) (R C : SourceType) 
         silent-then again H (λ rest. more (set 0 (plain.declare i t)) rest) (started P.classes t e 0 k) (silent-set again H 0 (plain.declare i t))
         (or-else (is_element t e) (is_held i e) (both (nat_le m i) (is_element t e || is_held i e) ok).1 (λ element. silent-element again H P t e element t 0 k) (silent-held i t e k))
     silent-statement (core.branch q a b) m ok o k =
-        let is = (both (is_value q) (is_statement m a && is_statement_or m b) ok).0 in
-        let yes : Plains = statement (inside_of P R C o) a (k + width q) (finished (declared a) nothing) in
+        let is = (both (is_value q) (is_statement m a && is_statement_or (next_local m a) b) ok).0 in
+        let yes : Plains = statement (inside_of P R C o) a (k + width q) nothing in
         let other : Plains = statement_or (inside_of P R C o) b (k + width q + width a) nothing in
         silent-whole again H P q is 0 k None (λ m rest. more (set m (plain.truth m)) rest) (λ m rest. more (plain.branch m yes other) rest)
         (λ m. silent-set again H m (plain.truth m)) (λ m. silent-branch again H m yes other)

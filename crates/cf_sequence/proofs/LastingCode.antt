@@ -201,7 +201,7 @@ module _ (again : calling.Again) (P : Program) (classless : P.classes ≡ []) (r
   nothing-keeps base core.blank ok into = keeps-gives (L base) Built
   nothing-keeps base e ok into = never ok
 
-  start-keeps : (base : List ℕ) (e : Core) → is_start e ≡ true → (into : Option Place) → Keeps (L base) (meaning.value again P e into)
+  pub start-keeps : (base : List ℕ) (e : Core) → is_start e ≡ true → (into : Option Place) → Keeps (L base) (meaning.value again P e into)
   start-keeps base e ok into = or-else (is_nothing e) (is_value e) ok (λ blank. nothing-keeps base e blank into) (λ is. value-keeps base e is into)
 
   pub filling-keeps : (base : List ℕ) (e : Core) → is_filling e ≡ true → (p : Place) → Keeps (L base) (meaning.value again P e (Some p))
@@ -219,7 +219,7 @@ module _ (again : calling.Again) (P : Program) (classless : P.classes ≡ []) (r
   pub initial-keeps : (base : List ℕ) (e : Core) → is_initial e ≡ true → (p : Place) → Keeps (L base) (meaning.value again P e (Some p))
   initial-keeps base e ok p = or-else (is_filling e) (is_start e) ok (λ fills. filling-keeps base e fills p) (λ starts. start-keeps base e starts (Some p))
 
-  held-keeps : (base : List ℕ) (i : ℕ) (e : Core) → is_held i e ≡ true → (p : Place) → Keeps (L base) (meaning.value again P e (Some p))
+  pub held-keeps : (base : List ℕ) (i : ℕ) (e : Core) → is_held i e ≡ true → (p : Place) → Keeps (L base) (meaning.value again P e (Some p))
   held-keeps base i (core.bind (local_temporary j u) e) ok p =
       let is : is_value e ≡ true = (both (not (is_reference u)) (is_value e) (both (nat_lt i j) (not (is_reference u) && is_value e) ok).1).1 in
       makes-then (L base) (λ (o : ℕ). m ≤ o) (new_local j u) _ (makes-new m before base j u)
@@ -281,7 +281,7 @@ module _ (again : calling.Again) (P : Program) (classless : P.classes ≡ []) (r
         (or-else (is_initial e) (is_list t e) parts.0 (λ initial. initial-keeps base e initial q) (λ is. list-keeps base t e is q le)))
         (elements-keep base t es parts.1 (suc i) p v le)
 
-  element-keeps : (base : List ℕ) (t : SourceType) (e : Core) → is_element t e ≡ true → (p : Place) → m ≤ p.object → Keeps (L base) (meaning.value again P e (Some p))
+  pub element-keeps : (base : List ℕ) (t : SourceType) (e : Core) → is_element t e ≡ true → (p : Place) → m ≤ p.object → Keeps (L base) (meaning.value again P e (Some p))
   element-keeps base t e ok p le = or-else (is_initial e) (is_list t e) ok (λ initial. initial-keeps base e initial p) (λ is. list-keeps base t e is p le)
 
   declared-keeps : (base : List ℕ) (i : ℕ) (t : SourceType) (e : Core) → ((p : Place) → m ≤ p.object → Keeps (L base) (meaning.value again P e (Some p)))
@@ -308,7 +308,7 @@ module _ (again : calling.Again) (P : Program) (classless : P.classes ≡ []) (r
   leaving-keeps base Breaks = keeps-gives (L base) Falls
   leaving-keeps base flow = keeps-gives (L base) flow
 
-  holds-keeps : (base : List ℕ) (q : MaybeCore) → is_condition q ≡ true → Keeps (L base) (does.holds again P q)
+  pub holds-keeps : (base : List ℕ) (q : MaybeCore) → is_condition q ≡ true → Keeps (L base) (does.holds again P q)
   holds-keeps base absent ok = keeps-gives (L base) true
   holds-keeps base (given e) ok =
       keeps-full m before base again P classless (meaning.value again P e None >>= truth_of)
@@ -320,7 +320,7 @@ module _ (again : calling.Again) (P : Program) (classless : P.classes ≡ []) (r
       keeps-next (L base) (full_expression again P (meaning.value again P e None)) next
       (keeps-full m before base again P classless (meaning.value again P e None) (value-keeps base e ok None)) k
 
-  used-full : (base : List ℕ) (e : Core) → is_value e ≡ true → Keeps (L base) (full_expression again P (meaning.value again P e None >>= used))
+  pub used-full : (base : List ℕ) (e : Core) → is_value e ≡ true → Keeps (L base) (full_expression again P (meaning.value again P e None >>= used))
   used-full base e ok =
       keeps-full m before base again P classless (meaning.value again P e None >>= used)
       (keeps-then (L base) (meaning.value again P e None) used (value-keeps base e ok None) (λ v. keeps-pure (L base) (used v) (pure-used v)))
@@ -365,11 +365,11 @@ module _ (again : calling.Again) (P : Program) (classless : P.classes ≡ []) (r
         or-else (is_element t e) (is_held i e) (both (nat_le n i) (is_element t e || is_held i e) ok).1 (λ started. declared-keeps base i t e (element-keeps base t e started))
         (λ held. declared-keeps base i t e (λ p le. held-keeps base i e held p))
     statement-lasts (core.branch c a b) n ok base =
-        let forms = both (is_value c) (is_statement n a && is_statement_or n b) ok in
-        let arms = both (is_statement n a) (is_statement_or n b) forms.1 in
+        let forms = both (is_value c) (is_statement n a && is_statement_or (next_local n a) b) ok in
+        let arms = both (is_statement n a) (is_statement_or (next_local n a) b) forms.1 in
         keeps-then (L base) (does.holds again P (given c)) _ (holds-keeps base (given c) forms.0)
         (λ t. keeps-when (L base) t (does.does again P a) (does.does_maybe again P b)
-        (statement-lasts a n arms.0 base) (maybe-lasts b n arms.1 base))
+        (statement-lasts a n arms.0 base) (maybe-lasts b (next_local n a) arms.1 base))
     statement-lasts (core.loop how q e s) n ok base =
         let forms = both (is_condition q) (is_condition e && is_statement n s) ok in
         let inner = both (is_condition e) (is_statement n s) forms.1 in

@@ -51,6 +51,7 @@ pub mod OwnNames
 pub mod Steps
 pub mod Switching
 pub mod Temporaries
+pub mod Tested
 pub mod Whole
 mod ScalarRows
 mod StaticListRows

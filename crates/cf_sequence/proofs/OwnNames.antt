@@ -15,7 +15,7 @@ use Rattle.cf_core.specs.Joined.{renamed, is_nothing}
 use Rattle.cf_plain.specs.Plain.{Plains, PlainFunction, PlainStatic, PlainFile, act, set, nothing, more}
 use Rattle.cf_plain.specs.Plain as plain_tree
 use Rattle.cf_plain.specs.Joined as plain
-use Rattle.cf_sequence.specs.Built.{is_statement, is_built_function, is_body, is_plain_role, is_chain, is_none, is_constant_start, is_built_static, has_mark, declares_last, is_numeral, is_mark}
+use Rattle.cf_sequence.specs.Built.{is_statement, is_built_function, is_body, is_plain_role, is_chain, is_none, is_constant_start, is_built_static, has_mark, arms_fit, is_numeral, is_mark}
 use Rattle.cf_sequence.specs.Made.{declared, numbered}
 use Rattle.cf_sequence.specs.Expressions.{finished}
 use Rattle.cf_sequence.specs.Statements.{type_of_static, binds, reached, started, initialised, statement}
@@ -24,7 +24,7 @@ use Rattle.cf_sequence.proofs.Calling.{never}
 use Rattle.cf_sequence.proofs.StaticObjects.{type_found}
 use Rattle.cf_sequence.proofs.Constants.{set_as, start-is, constant-object, constant-start, something-constant, constant-element, by-set}
 use Rattle.cf_sequence.proofs.JoinedObjects.{beside}
-use Rattle.cf_sequence.proofs.Renamed.{same-adds, same-nothing, same-binds, same-declared, same-statement, same-constant-start, same-last}
+use Rattle.cf_sequence.proofs.Renamed.{same-adds, same-nothing, same-binds, same-declared, same-statement, same-constant-start, same-fit}
 use Rattle.cf_sequence.proofs.RenamedCode.{over-finished, over-bound}
 use Rattle.cf_sequence.proofs.RenamedLists.{over-element}
 use Rattle.cf_sequence.proofs.RenamedStatements.{over-statement}
@@ -171,18 +171,18 @@ module _ (k : ℕ) (names : List Name) where
       let main_ok : Bool = not (bytes_eq f.name (codes "__main")) || is_none (parameters f.type) in
       let main_own : Bool = not (bytes_eq (r f.name) (codes "__main")) || is_none (parameters f.type) in
       let plain_result : Bool = not (is_class (result f.type)) in
-      let stated : Bool = is_statement (length (parameters f.type)) (renamed r f.body) && declares_last true (renamed r f.body) in
+      let stated : Bool = is_statement (length (parameters f.type)) (renamed r f.body) && arms_fit (length (parameters f.type) + length f.locals) (renamed r f.body) in
       let one = both (is_plain_role f.role) (is_chain f.type && (main_ok && is_body f)) ok in
       let two = both (is_chain f.type) (main_ok && is_body f) one.1 in
       let three = both main_ok (is_body f) two.1 in
-      let four = both plain_result (is_statement (length (parameters f.type)) f.body && declares_last true f.body) three.1 in
-      let five = both (is_statement (length (parameters f.type)) f.body) (declares_last true f.body) four.1 in
+      let four = both plain_result (is_statement (length (parameters f.type)) f.body && arms_fit (length (parameters f.type) + length f.locals) f.body) three.1 in
+      let five = both (is_statement (length (parameters f.type)) f.body) (arms_fit (length (parameters f.type) + length f.locals) f.body) four.1 in
       all_of (is_plain_role f.role) (is_chain f.type && (main_own && (plain_result && stated))) one.0
       (all_of (is_chain f.type) (main_own && (plain_result && stated)) two.0
       (all_of main_own (plain_result && stated) (main-stays f three.0)
       (all_of plain_result stated four.0
-      (all_of (is_statement (length (parameters f.type)) (renamed r f.body)) (declares_last true (renamed r f.body)) (same-statement r (length (parameters f.type)) f.body ∙ five.0)
-      (same-last r true f.body ∙ five.1)))))
+      (all_of (is_statement (length (parameters f.type)) (renamed r f.body)) (arms_fit (length (parameters f.type) + length f.locals) (renamed r f.body)) (same-statement r (length (parameters f.type)) f.body ∙ five.0)
+      (same-fit r (length (parameters f.type) + length f.locals) f.body ∙ five.1)))))
 
   pub own-functions : (gs : List Function) → list_all is_built_function gs ≡ true → list_all is_built_function (map (core.function_in_file r) gs) ≡ true
   own-functions [] ok = refl

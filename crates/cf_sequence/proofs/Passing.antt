@@ -1,5 +1,5 @@
 -- What a label of a switch passes (6.7): the core declares it as it goes by, and the switch before the switch at once.
-use Rattle.std.proofs.Common.{◌≡◌, ℕ, suc, ◌≤◌, Bool, true, false, ◌||◌, nat_lt, nat_le, ◌==◌, List, [], ◌∷◌, ◌++◌, reverse, refl, sym, ◌∙◌, ap, subst, arith, append_assoc, if◌then◌else◌}
+use Rattle.std.proofs.Common.{◌≡◌, ℕ, suc, ◌≤◌, ◌<◌, Bool, true, false, not, ◌||◌, nat_lt, nat_le, ◌==◌, List, [], ◌∷◌, ◌++◌, reverse, refl, sym, ◌∙◌, ap, subst, arith, append_assoc, if◌then◌else◌}
 use Rattle.std.specs.Prelude.{ℤ, Option, Some, None}
 use Rattle.std.proofs.lemmas.Bool.Decides.{nat_tests}
 use Rattle.std.proofs.lemmas.List.{reverse-append}
@@ -20,7 +20,7 @@ use Rattle.cf_plain.specs.Acts.{Registers}
 use Rattle.cf_plain.specs.Running as running
 use Rattle.cf_plain.specs.Running.{Flow, Falls, falling, all}
 use Rattle.cf_sequence.specs.Follows.{Follows}
-use Rattle.cf_sequence.specs.Built.{is_element, is_held, next_local, next_locals, is_statement, are_statements, are_cases}
+use Rattle.cf_sequence.specs.Built.{is_element, is_held, next_local, next_locals, is_none, arms_declare, any_arms_declare, is_statement, are_statements, are_cases}
 use Rattle.cf_sequence.specs.Made.{Local, declared, declared_all}
 use Rattle.cf_sequence.specs.Statements.{made, passing}
 use Rattle.cf_sequence.proofs.Following.{on, pull}
@@ -28,8 +28,8 @@ use Rattle.cf_sequence.proofs.Calling.{never}
 use Rattle.cf_sequence.proofs.Kept.{Kept, kept-all, Ready, listed-kept, listed-there}
 use Rattle.cf_sequence.proofs.PlainSteps.{runs_on, room-for}
 use Rattle.cf_sequence.proofs.Operands.{H}
-use Rattle.cf_sequence.proofs.Moving.{Held, held-kept, Moved, moved-then, Beyond}
-use Rattle.cf_sequence.proofs.Standing.{Open, Stands, stands-later, moved-all, low-bound, next-more}
+use Rattle.cf_sequence.proofs.Moving.{Later, Held, held-more, held-kept, AllAbove, above-append, above-less, Moved, moved-then, Beyond, Owned, owned-more}
+use Rattle.cf_sequence.proofs.Standing.{Open, Stands, stands-later, moved-all, low-bound, next-more, none-next}
 use Rattle.cf_sequence.proofs.Silent.{Silent, silent-none, silent-act, silent-then, silent-leave}
 use Rattle.cf_sequence.proofs.Labels.{Aim, to_case, to_default, core_from, plain_from, core_has, fits_case, by-case, hits, label-has, label-passing, mark-has, mark-goes, no-label, passing-past}
 
@@ -150,14 +150,21 @@ abbrev pub declared-state : ℕ → SourceType → State → State
 declared-state i T s = record s { next = suc s.next; object = upd s.next (new_object T automatic) s.object; frame = lists_local i s.next s.frame }
 
 -- behind its initialiser it is listed in the scope at hand
-pub declared-moved : (m i k o : ℕ) (s : State) (f : Frame) (t : State) (g : Frame) → m ≤ i → m ≤ k → Ready k s.frame f → t.frame ≡ lists_local i o s.frame → Kept k (lists_local i o f) g
+pub declared-moved : (m i k o : ℕ) (s : State) (f : Frame) (t : State) (g : Frame) → m ≤ i → m ≤ k → Ready k s.frame f → t.frame ≡ lists_local i o s.frame → Kept k (lists_local i o f) g → Later s t
     → Moved m s f (with_frame (lists_in_scope o t.frame) t) g
-declared-moved m i k o s f t g le less ready same kept = record {
+declared-moved m i k o s f t g le less ready same kept later = record {
   core = ap (λ (x : Frame). record x { scope = o ∷ t.frame.scope }) same ∙ ap (λ (x : Frame). record s.frame { locals = x.locals; scope = o ∷ t.frame.scope }) (sym same);
   plain = kept.frame;
   below = λ j lt. kept.below j (omega arith) ∙ (listed-kept i o f).below j (omega arith);
   locals = λ j lt. kept.below j (let c1 = ready.count in omega arith) ∙ ap (λ z. if j == i then Some o else z) (ready.locals j lt) ∙ ap (λ (x : Frame). x.locals j) (sym same);
+  later = record { next = later.next; gone = later.gone };
 }
+
+pub declared-later : (i : ℕ) (T : SourceType) (s : State) → Later s (declared-state i T s)
+declared-later i T s = record { next = omega arith; gone = λ o lt e. ap (λ b. (if b then new_object T automatic else s.object o).is_gone) (other o lt) ∙ e }
+  where
+    other : (o : ℕ) → o < s.next → o == s.next ≡ false
+    other o lt = grind (arith, nat_tests, lt)
 
 pub low-number : (i n : ℕ) → nat_lt i n ≡ true → suc i ≤ n
 low-number i n lt = grind (arith, nat_tests)
@@ -168,18 +175,22 @@ module _ (again : calling.Again) (again' : running.Again) (P : Program) (A B : T
   -- These locals have been declared, the newest first, and are listed; plain code would have declared them too.
   pub record Passed (m n : ℕ) (xs here : List Local) (s : State) (f : Frame) (w : World) (t : State) (g : Frame) : Type 0 where
     pub moved : Moved m s f t g
-    pub held : Held g.locals n (xs ++ here) t.frame.scope
+    pub held : Held t g.locals n (xs ++ here) t.frame.scope
+    pub owned : (p : ℕ) (own : List ℕ) → p ≤ m → Owned p own s → Owned p own t
+    pub above : AllAbove m xs
     pub low : n ≤ t.frame.count
     pub runs : (zs : Plains) (h : Registers) (K : Flow → Act B) → runs_on again' (H again again' P) (made (reverse xs) zs) h K (with_frame f s) w ≡ runs_on again' (H again again' P) zs h K (with_frame g t) w
 
   passed-none : (m k : ℕ) (o : Open) (D : Beyond) (s : State) (f : Frame) (w : World) → Stands o D m k s f → Passed m m [] o.here s f w s f
-  passed-none m k o D s f w st = record { moved = moved-all m k s f st.ready; held = st.here; low = st.low; runs = λ zs h K. refl }
+  passed-none m k o D s f w st = record { moved = moved-all m k s f st.ready; held = st.here; owned = λ p own le h. h; above = tt; low = st.low; runs = λ zs h K. refl }
 
   passed-then : (m n l : ℕ) (xs ys here : List Local) (s : State) (f : Frame) (w : World) (t : State) (g : Frame) (u : State) (h : Frame) → m ≤ n
       → Passed m n xs here s f w t g → Passed n l ys (xs ++ here) t g w u h → Passed m l (ys ++ xs) here s f w u h
   passed-then m n l xs ys here s f w t g u h le p q = record {
     moved = moved-then m n s f t g u h le p.moved q.moved;
-    held = subst (λ zs. Held h.locals l zs u.frame.scope) (sym (append_assoc ys xs here)) q.held;
+    held = subst (λ zs. Held u h.locals l zs u.frame.scope) (sym (append_assoc ys xs here)) q.held;
+    owned = λ r own lr before. q.owned r own (omega arith) (p.owned r own lr before);
+    above = above-append m ys xs (above-less n m ys le q.above) p.above;
     low = q.low;
     runs = λ zs r K.
         ap (λ ws. runs_on again' (H again again' P) (made ws zs) r K (with_frame f s) w) (reverse-append ys xs)
@@ -200,36 +211,50 @@ module _ (again : calling.Again) (again' : running.Again) (P : Program) (A B : T
       let low : suc i ≤ s.frame.count = low-number i s.frame.count lt in
       let c1 = st.ready.count in
       let c2 = st.ready.wide in
-      let v : Moved m s f t f1 = declared-moved m i k at s f s1 f1 le (let l = st.low in omega arith) st.ready refl (kept-all k f1) in
+      let v : Moved m s f t f1 = declared-moved m i k at s f s1 f1 le (let l = st.low in omega arith) st.ready refl (kept-all k f1) (declared-later i T s) in
       next t f1 (record {
         moved = v;
-        held = (listed-there i at f, omega arith, held-kept f.locals f1.locals m (suc i) o.here s.frame.scope st.here (omega arith) v.below);
+        held = held-more t f1.locals (suc i) (record { number = i; type = T }) o.here at s.frame.scope (listed-there i at f) (omega arith)
+            (held-kept s t f.locals f1.locals m (suc i) o.here s.frame.scope v.later st.here (omega arith) v.below);
+        owned = λ p own lp before. owned-more p own s t i at before (omega arith) (omega arith) (omega arith) v.later refl;
+        above = (le, tt);
         low = low;
         runs = λ zs h K. declared-runs again' (H again again' P) i T zs h K s f w (room-for i f.count (omega arith));
       })
 
+  -- of an `if` whose arms declare nothing
+  empty-of : (xs : List Local) → not (is_none xs) ≡ false → xs ≡ []
+  empty-of [] e = refl
+  empty-of (x ∷ xs) e = never (sym e)
+
   mutual
-    pub pass-one : (e : Core) (m : ℕ) → is_statement m e ≡ true → (o : Open) (D : Beyond) (k : ℕ) (s : State) (f : Frame) (w : World) (G : Act A) (Y : Ran (Did B)) → Stands o D m k s f
+    pub pass-one : (e : Core) (m : ℕ) → is_statement m e ≡ true → arms_declare e ≡ false → (o : Open) (D : Beyond) (k : ℕ) (s : State) (f : Frame) (w : World) (G : Act A) (Y : Ran (Did B)) → Stands o D m k s f
         → ((t : State) (g : Frame) → Passed m (next_local m e) (declared e) o.here s f w t g → Follows S (G t w) Y)
         → Follows S (and_then (does.passes e s w) (on (λ u. G))) Y
-    pass-one (core.declare i T core.blank) m ok o D k s f w G Y st next =
+    pass-one (core.declare i T core.blank) m ok free o D k s f w G Y st next =
         pull (new_local i T s w) (λ o. frame_changed (lists_in_scope o)) (λ u. G) Y
         (pass-local i T m (low-bound m i (both (nat_le m i) (is_element T core.blank || is_held i core.blank) ok).0) o D k s f w G Y st next (nat_lt i s.frame.count) refl)
-    pass-one (core.declare i T e) m ok o D k s f w G Y st next = record { by = tt }
-    pass-one (core.sequence es) m ok o D k s f w G Y st next = pass-all es m ok o D k s f w G Y st next
-    pass-one e m ok o D k s f w G Y st next = next s f (passed-none m k o D s f w st)
+    pass-one (core.declare i T e) m ok free o D k s f w G Y st next = record { by = tt }
+    pass-one (core.sequence es) m ok free o D k s f w G Y st next = pass-all es m ok free o D k s f w G Y st next
+    pass-one (core.branch c a b) m ok free o D k s f w G Y st next =
+        let e : Core = core.branch c a b in
+        let empty : declared e ≡ [] = empty-of (declared e) free in
+        next s f (subst (λ xs. Passed m (next_local m e) xs o.here s f w s f) (sym empty) (subst (λ n. Passed m n [] o.here s f w s f) (sym (none-next m e empty)) (passed-none m k o D s f w st)))
+    pass-one e m ok free o D k s f w G Y st next = next s f (passed-none m k o D s f w st)
 
-    pass-all : (es : Cores) (m : ℕ) → are_statements m es ≡ true → (o : Open) (D : Beyond) (k : ℕ) (s : State) (f : Frame) (w : World) (G : Act A) (Y : Ran (Did B)) → Stands o D m k s f
+    pass-all : (es : Cores) (m : ℕ) → are_statements m es ≡ true → any_arms_declare es ≡ false → (o : Open) (D : Beyond) (k : ℕ) (s : State) (f : Frame) (w : World) (G : Act A) (Y : Ran (Did B)) → Stands o D m k s f
         → ((t : State) (g : Frame) → Passed m (next_locals m es) (declared_all es) o.here s f w t g → Follows S (G t w) Y)
         → Follows S (and_then (does.passes_all es s w) (on (λ u. G))) Y
-    pass-all none m ok o D k s f w G Y st next = next s f (passed-none m k o D s f w st)
-    pass-all (core.more e es) m ok o D k s f w G Y st next =
+    pass-all none m ok free o D k s f w G Y st next = next s f (passed-none m k o D s f w st)
+    pass-all (core.more e es) m ok free o D k s f w G Y st next =
         let parts = both (is_statement m e) (are_statements (next_local m e) es) ok in
+        let frees = neither again' (H again again' P) (arms_declare e) (any_arms_declare es) free in
         let le : m ≤ next_local m e = next-more m e parts.0 in
         pull (does.passes e s w) (λ u. does.passes_all es) (λ u. G) Y
-        (pass-one e m parts.0 o D k s f w (does.passes_all es >>= (λ u. G)) Y st (λ t g p.
+        (pass-one e m parts.0 frees.0 o D k s f w (does.passes_all es >>= (λ u. G)) Y st (λ t g p.
         let count : g.count ≡ f.count = ap (λ (x : Frame). x.count) p.moved.plain in
         let wide = st.ready.wide in
-        pass-all es (next_local m e) parts.1 (record o { here = declared e ++ o.here }) D k t g w G Y
-        (stands-later o D m (next_local m e) k k (declared e ++ o.here) s f t g st p.moved le p.low (omega arith) (omega arith) p.held)
+        pass-all es (next_local m e) parts.1 frees.1 (record o { here = declared e ++ o.here }) D k t g w G Y
+        (stands-later o D m (next_local m e) k k (declared e ++ o.here) s f t g st p.moved le p.low (omega arith) (omega arith) p.held (p.owned D.params D.own st.params st.owned)
+        (above-append D.params (declared e) o.here (above-less m D.params (declared e) st.params p.above) st.above_here))
         (λ u h q. next u h (passed-then m (next_local m e) (next_locals (next_local m e) es) (declared e) (declared_all es) o.here s f w t g u h le p q))))

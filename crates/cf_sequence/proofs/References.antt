@@ -1,6 +1,6 @@
 -- A local reference and the temporary that it binds (8.4.3, 12.2): both are locals of the scope at hand, and the temporary's object is there behind the
 -- reference's.
-use Rattle.std.proofs.Common.{◌≡◌, inl, inr, ℕ, suc, ◌+◌, ◌-◌, ◌≤◌, ◌<◌, Bool, true, false, not, ◌&&◌, nat_lt, nat_le, ◌==◌, List, [], ◌∷◌, ◌++◌, reverse, refl, sym, ◌∙◌, ap, subst, arith, if◌then◌else◌}
+use Rattle.std.proofs.Common.{◌≡◌, inl, inr, ℕ, suc, ◌+◌, ◌-◌, ◌≤◌, ◌<◌, Bool, true, false, not, ◌&&◌, ◌||◌, nat_lt, nat_le, ◌==◌, List, [], ◌∷◌, ◌++◌, reverse, refl, sym, ◌∙◌, ap, subst, arith, if◌then◌else◌}
 use Rattle.std.specs.Prelude.{Some}
 use Rattle.std.proofs.lemmas.Bool.Decides.{nat_tests}
 use Rattle.cf_base.proofs.Tests.{both}
@@ -9,8 +9,8 @@ use Rattle.cf_core.specs.Types.{SourceType, Name, is_class}
 use Rattle.cf_core.specs.Core as core
 use Rattle.cf_core.specs.Core.{Core, Function, local_temporary}
 use Rattle.cf_core.specs.Places.{is_reference}
-use Rattle.cf_core.specs.Store.{Value, At}
-use Rattle.cf_core.specs.Run.{State, Frame, Act, ◌>>=◌, ◌>>◌, gives, valid, declared_object, frame_changed, lists_local, lists_in_scope, with_frame}
+use Rattle.cf_core.specs.Store.{Value, At, new_object, automatic}
+use Rattle.cf_core.specs.Run.{State, Frame, Act, ◌>>=◌, ◌>>◌, gives, valid, declared_object, frame_changed, lists_local, lists_in_scope, upd, with_frame}
 use Rattle.cf_core.specs.Objects.{settle, settled as core_settled}
 use Rattle.cf_core.specs.Calls as calling
 use Rattle.cf_core.specs.Calls.{Program, root, function_named}
@@ -35,10 +35,12 @@ use Rattle.cf_sequence.proofs.Evaluating.{follow-value}
 use Rattle.cf_sequence.proofs.Fulls.{Cleared, flags-steps, closing, closing-steps, held_at}
 use Rattle.cf_sequence.proofs.Placing.{placing}
 use Rattle.cf_sequence.proofs.Temporaries.{unset-kept, Begins}
-use Rattle.cf_sequence.proofs.Moving.{Held, held-kept, Moved, Beyond}
+use Rattle.cf_sequence.proofs.Moving.{Later, is_in, Held, held-more, held-kept, Moved, Beyond, Owned, owned-more, owned-scope}
+use Rattle.cf_sequence.proofs.LastingCode.{value-keeps}
+use Rattle.cf_sequence.proofs.Tested.{tested, lasting-on, told-on, settle-on}
 use Rattle.cf_sequence.proofs.Standing.{Open, Stands, low-bound, settled_full, Turns}
 use Rattle.cf_sequence.proofs.Scopes.{Fallen}
-use Rattle.cf_sequence.proofs.Passing.{declared-state, low-number}
+use Rattle.cf_sequence.proofs.Passing.{declared-state, declared-later, low-number}
 
 -- a local is there, with its object
 pub declared-ready : (i k : ℕ) (o : ℕ) (e f : Frame) → Ready k e f → Ready k (lists_local i o e) (lists_local i o f)
@@ -78,6 +80,34 @@ begins-held e ok k j q v g h e0 e1 f ready room cleared =
           (λ i from less. keep-other n (1 + (i - k)) (keep h (suc n) v) v (λ same. omega arith) ∙ keep-other (suc n) (1 + (i - k)) h v (λ same. omega arith)) cleared.unset;
     }
 
+-- the reference and its temporary name objects of their own
+owned-both : (i j o q : ℕ) (T : SourceType) (p : ℕ) (own : List ℕ) (s t : State) → Owned p own s → p ≤ i → p ≤ j → o ≡ s.next → q ≡ suc o → t.frame ≡ both_listed i o j q s.frame → Later s t → q < t.next
+    → Owned p own (with_frame (lists_in_scope o t.frame) t)
+owned-both i j o q T p own s t before le le2 o_is q_is same later new =
+    let s1 : State = with_frame (lists_in_scope o (lists_local i o s.frame)) (record s { next = suc o; object = upd o (new_object T automatic) s.object }) in
+    let s2 : State = with_frame (lists_in_scope q (lists_local j q s1.frame)) t in
+    let first : Owned p own s1 = owned-more p own s s1 i o before le (omega arith) (omega arith) (record { next = omega arith; gone = λ x lt e. fresh x lt e (x == o) refl }) refl in
+    let second : Owned p own s2 = owned-more p own s1 s2 j q first le2 (omega arith) new (record { next = omega arith; gone = λ x lt e. stayed x lt e (x == o) refl }) refl in
+    let third = owned-scope p own (o ∷ q ∷ s.frame.scope) s2 second (λ x e. turned (q == x) (o == x) (is_in x s.frame.scope) e) in
+    subst (λ (e : Frame). Owned p own (with_frame (lists_in_scope o e) t)) (sym same) third
+  where
+    turned : (a b c : Bool) → a || (b || c) ≡ true → b || (a || c) ≡ true
+    turned true true c e = refl
+    turned true false c e = refl
+    turned false true c e = refl
+    turned false false c e = e
+
+    fresh : (x : ℕ) → x < s.next → (s.object x).is_gone ≡ true → (b : Bool) → x == o ≡ b → (if x == o then new_object T automatic else s.object x).is_gone ≡ true
+    fresh x lt e true k = let same : x ≡ o = grind (arith, nat_tests, k) in absurd (omega (arith, same, o_is, lt))
+    fresh x lt e false k = ap (λ b. (if b then new_object T automatic else s.object x).is_gone) k ∙ e
+
+    stayed : (x : ℕ) → x < suc o → (if x == o then new_object T automatic else s.object x).is_gone ≡ true → (b : Bool) → x == o ≡ b → (t.object x).is_gone ≡ true
+    stayed x lt e true k =
+        let no : false ≡ true = sym (ap (λ b. (if b then new_object T automatic else s.object x).is_gone) k) ∙ e in absurd (let z = no in cc)
+    stayed x lt e false k =
+        let other : x < s.next = grind (arith, nat_tests, k, lt, o_is) in
+        later.gone x other (sym (ap (λ b. (if b then new_object T automatic else s.object x).is_gone) k) ∙ e)
+
 module _ (again : calling.Again) (again' : running.Again) (P : Program) (bodies : Bodies again again' P)
     (chains : (name : Name) (f : Function) → function_named P name ≡ Some f → is_chain f.type ≡ true)
     (classless : P.classes ≡ []) (turns : Turns again again' P) (R C : SourceType) (plain-result : is_class R ≡ false)
@@ -85,10 +115,11 @@ module _ (again : calling.Again) (again' : running.Again) (P : Program) (bodies 
   -- both are there, and fall through
   held-falls : (i j k o q : ℕ) (T u : SourceType) (m : ℕ) (op : Open) (D : Beyond) (rest : Plains) (s : State) (f : Frame) (c : calling.Flow → Act A) (K : Flow → Act B)
       → Stands op D m k s f → m ≤ i → i < j → j < s.frame.count
-      → (Fallen again again' P bodies chains classless turns R C plain-result A B S) (suc j) (record { number = i; type = T } ∷ record { number = j; type = u } ∷ op.here) m c K rest s f
-      → (t : State) (g : Frame) (h : Registers) (w : World) → t.frame ≡ both_listed i o j q s.frame → Kept k (lists_local j q (lists_local i o f)) g
+      → (Fallen again again' P bodies chains classless turns R C plain-result A B S) D (suc j) (record { number = i; type = T } ∷ record { number = j; type = u } ∷ op.here) m c K rest s f
+      → o ≡ s.next → q ≡ suc o
+      → (t : State) (g : Frame) (h : Registers) (w : World) → t.frame ≡ both_listed i o j q s.frame → Kept k (lists_local j q (lists_local i o f)) g → Later s t → q < t.next
       → Follows S (c calling.Falls (with_frame (lists_in_scope o t.frame) t) w) (runs_on again' (H again again' P) rest h K (with_frame g t) w)
-  held-falls i j k o q T u m op D rest s f c K st le lt there falls t g h w same kept =
+  held-falls i j k o q T u m op D rest s f c K st le lt there falls o_is q_is t g h w same kept later new =
       let f1 : Frame = lists_local i o f in
       let c1 = st.ready.count in
       let e : Frame = both_listed i o j q s.frame in
@@ -101,20 +132,23 @@ module _ (again : calling.Again) (again' : running.Again) (P : Program) (bodies 
         locals = λ x less.
             kept.below x (omega arith) ∙ ap (λ z. if x == j then Some q else (if x == i then Some o else z)) (st.ready.locals x less)
             ∙ ap (λ (y : Frame). y.locals x) (sym same);
+        later = record { next = later.next; gone = later.gone };
       } in
-      falls (with_frame (lists_in_scope o t.frame) t) g h w v
-      (subst (λ (y : Frame). Held g.locals (suc j) (record { number = i; type = T } ∷ record { number = j; type = u } ∷ op.here) (o ∷ y.scope)) (sym same) (
-        kept.below i (omega arith) ∙ (listed-kept j q f1).below i lt ∙ listed-there i o f,
-        (omega arith),
-        (kept.below j (omega arith) ∙ listed-there j q f1, (omega arith), held-kept f.locals g.locals m (suc j) op.here s.frame.scope st.here (omega arith) below),
-      ))
+      let z : State = with_frame (lists_in_scope o t.frame) t in
+      falls z g h w v
+      (subst (λ (y : Frame). Held z g.locals (suc j) (record { number = i; type = T } ∷ record { number = j; type = u } ∷ op.here) (o ∷ y.scope)) (sym same)
+      (held-more z g.locals (suc j) (record { number = i; type = T }) (record { number = j; type = u } ∷ op.here) o (q ∷ s.frame.scope)
+      (kept.below i (omega arith) ∙ (listed-kept j q f1).below i lt ∙ listed-there i o f) (omega arith)
+      (held-more z g.locals (suc j) (record { number = j; type = u }) op.here q s.frame.scope (kept.below j (omega arith) ∙ listed-there j q f1) (omega arith)
+      (held-kept s z f.locals g.locals m (suc j) op.here s.frame.scope v.later st.here (omega arith) below))))
       (subst (λ (y : Frame). suc j ≤ y.count) (sym same) there)
+      (owned-both i j o q T D.params D.own s t st.owned (let a = st.params in omega arith) (let a = st.params in omega arith) o_is q_is same later new)
 
   -- the temporary's object is there
   held-started : (i j : ℕ) (T u : SourceType) (e : Core) → is_value e ≡ true → is_reference u ≡ false → (m : ℕ) → m ≤ i → i < j → (op : Open) (D : Beyond) (k : ℕ) (rest : Plains) (h : Registers) (s : State) (f : Frame) (w : World)
       (c : calling.Flow → Act A) (K : Flow → Act B) → h 0 ≡ Some (At (root s.next))
       → Stands op D m k s f → k + width e ≤ f.count
-      → (Fallen again again' P bodies chains classless turns R C plain-result A B S) (suc j) (record { number = i; type = T } ∷ record { number = j; type = u } ∷ op.here) m c K rest s f
+      → (Fallen again again' P bodies chains classless turns R C plain-result A B S) D (suc j) (record { number = i; type = T } ∷ record { number = j; type = u } ∷ op.here) m c K rest s f
       → (b : Bool) → nat_lt j s.frame.count ≡ b
       → Follows S
       (and_then ((valid b >> (declared_object u >>= (λ q. frame_changed (lists_local j q) >> gives q))) (with_frame (record (lists_local i s.next s.frame) { temporaries = [] }) (declared-state i T s)) w)
@@ -144,6 +178,7 @@ module _ (again : calling.Again) (again' : running.Again) (P : Program) (bodies 
       let shuts : Unit {0} → Act A = λ x. closing again P s.frame.temporaries x >>= scopes in
       let closes : Value → Act A = λ v. settle P.classes (root o) v >>= shuts in
       let ends : Act Value = frame_changed (lists_in_scope q) >> gives place in
+      let behind_it : Value → Act A = λ v. (settle P.classes (root q) v >> ends) >>= closes in
       let code : Plains = value P.classes x e (destination object u) first k (settled e object first last) in
       let named : Plains = more (set n (plain.local j)) code in
       let ready : Ready k e0 f1 = record {
@@ -161,25 +196,40 @@ module _ (again : calling.Again) (again' : running.Again) (P : Program) (bodies 
       declare-steps again' (H again again' P) j u object named h0 K _ s1 f1 w (omega arith)
       (here-steps again' (H again again' P) j q n code h1 K _ s2 f2 w (omega arith) (listed-there j q f1) (new-type u q s1 no_reference)
       (pull-two (meaning.value again P e (Some (root q)) s2 w) (settle P.classes (root q)) (λ x. ends) closes _
+      (lasting-on s2.next s2.object s2.frame.scope s2 w (meaning.value again P e (Some (root q))) (value-keeps again P classless turns.rests s2.next s2.object s2.frame.scope e ok (Some (root q)))
+      (record { next = omega arith; objects = λ o lt. record { type = refl; life = refl; gone = refl }; temporaries = tt; scope = record { newer = []; parts = refl; new = tt } }) behind_it _
       (follow-value again again' P bodies chains A B S e ok false (Some (root q)) (destination object u) x first k (settled e object first last) h2 s2 f2 w
-      (λ v. (settle P.classes (root q) v >> ends) >>= closes) K
+      (tested s2.next s2.object behind_it) K
       (begins-held e ok k j q place h h0 e0 s2.frame f1 (declared-ready j k q e0 f1 ready) room cleared) (λ v t h3 f3 w3 done.
+      told-on s2 s2.next s2.object refl refl behind_it v t w3 _ (λ lasts.
       pull (settle P.classes (root q) v t w3) (λ x. ends) closes _
-      (subst (λ b. Follows S (and_then (settle P.classes (root q) v t w3) (on (λ x. ends >>= closes))) (runs_on again' (H again again' P) (if b then last else more (act (plain.first object first)) last) h3 K (with_frame f3 t) w3))
+      (settle-on P.classes (root q) v t w3 (λ x. ends >>= closes) _
+      (subst (λ b. Follows S (and_then (settle P.classes (root q) v t w3) (on (tested t.next t.object (λ (x : Unit {0}). ends >>= closes)))) (runs_on again' (H again again' P) (if b then last else more (act (plain.first object first)) last) h3 K (with_frame f3 t) w3))
       (sym (value-gives again again' P bodies chains A B S e ok))
-      (first-steps again again' P bodies chains A B S object first (root q) v h3 last (λ x. ends >>= closes) K t f3 w3
+      (first-steps again again' P bodies chains A B S object first (root q) v h3 last (tested t.next t.object (λ (x : Unit {0}). ends >>= closes)) K t f3 w3
       (done.grown.below object (omega arith) (inr (omega arith)) ∙ keep-other n object h1 place (λ z. omega arith) ∙ keep-same object h0 place) done.value (λ t3 same.
-      first-steps again again' P bodies chains A B S 0 n (root o) place h3 after shuts K (with_frame (lists_in_scope q t3.frame) t3) f3 w3
+      told-on t t.next t.object refl refl (λ (x : Unit {0}). ends >>= closes) tt t3 w3 _ (λ lasts3.
+      let z3 : State = with_frame (lists_in_scope q t3.frame) t3 in
+      settle-on P.classes (root o) place z3 w3 shuts _
+      (first-steps again again' P bodies chains A B S 0 n (root o) place h3 after (tested z3.next z3.object shuts) K z3 f3 w3
       (done.grown.below 0 (omega arith) (inl (omega arith)) ∙ keep-other n 0 h1 place (λ z. omega arith) ∙ keep-other object 0 h0 place (λ z. omega arith) ∙ cleared.below 0 (omega arith) ∙ at)
       (done.grown.below n (omega arith) (inr (omega arith)) ∙ keep-same n h1 place) (λ t4 same4.
+      told-on z3 z3.next z3.object refl refl shuts tt t4 w3 _ (λ lasts4.
       closing-steps again again' P bodies chains classless A B S x ts done.grown.made listed t4 h3 f3 w3 tt scopes rest K
-      (same4 ∙ ap (λ (x : Frame). lists_in_scope q x) (same ∙ done.grown.frame)) done.grown.listed (λ t5 same5.
-      held-falls i j k o q T u m op D rest s f c K st le lt number falls t5 f3 h3 w3 same5 done.kept))))))))))
+      (same4 ∙ ap (λ (x : Frame). lists_in_scope q x) (same ∙ done.grown.frame)) done.grown.listed (λ t5 same5 lasts5.
+      let a = lasts.next in let b = lasts3.next in let d = lasts4.next in let r = lasts5.next in
+      held-falls i j k o q T u m op D rest s f c K st le lt number falls refl refl t5 f3 h3 w3 same5 done.kept
+      (record {
+        next = omega arith;
+        gone = λ y less e.
+            lasts5.gone y (omega arith) (lasts4.gone y (omega arith) (lasts3.gone y (omega arith)
+            (lasts.gone y (omega arith) ((declared-later j u s0).gone y (omega arith) ((declared-later i T s).gone y less e)))));
+      }) (omega arith)))))))))))))))))
 
   pub held-declaration : (i : ℕ) (T : SourceType) (e : Core) (m : ℕ) → nat_le m i ≡ true → is_held i e ≡ true → (op : Open) (D : Beyond) (k : ℕ) (rest : Plains) (g : Registers) (s : State) (f : Frame) (w : World)
       (c : calling.Flow → Act A) (K : Flow → Act B)
       → Stands op D m k s f → k + width e ≤ f.count
-      → (Fallen again again' P bodies chains classless turns R C plain-result A B S) (behind_declared i e) ((record { number = i; type = T } ∷ held_by e) ++ op.here) m c K rest s f
+      → (Fallen again again' P bodies chains classless turns R C plain-result A B S) D (behind_declared i e) ((record { number = i; type = T } ∷ held_by e) ++ op.here) m c K rest s f
       → (b : Bool) → nat_lt i s.frame.count ≡ b
       → Follows S (and_then ((valid b >> (declared_object T >>= (λ o. frame_changed (lists_local i o) >> gives o))) s w)
       (on (λ o. (settled_full again P (root o) e >> frame_changed (lists_in_scope o)) >>= (λ u. c calling.Falls))))

@@ -10,9 +10,9 @@ use Rattle.cf_core.specs.Places.{is_reference}
 use Rattle.cf_core.specs.Nodes.{nodes, nodes_all, nodes_maybe, nodes_parts}
 use Rattle.cf_core.specs.Joined.{renamed, renamed_all, renamed_maybe, renamed_parts, is_nothing}
 use Rattle.cf_core.specs.Valid.{is_label, has_label}
-use Rattle.cf_sequence.specs.Built.{is_row, is_chain, is_value, are_values, are_arguments, is_condition, is_start, is_filling, is_initial, is_list, is_element, are_elements, is_held, behind_declared, next_local, next_locals, declares_here, any_declares, is_statement, are_cases, are_statements, is_constant_value, is_constant_initial, is_constant_list, are_constant_elements, is_constant_element, is_bound, is_constant_set, is_constant_start, is_statement_or, declares_last, or_declares_last, all_declare_last, none_declares}
+use Rattle.cf_sequence.specs.Built.{is_row, is_chain, is_value, are_values, are_arguments, is_condition, is_start, is_filling, is_initial, is_list, is_element, are_elements, is_held, behind_declared, next_local, next_local_or, next_locals, arms_declare, any_arms_declare, is_statement, are_cases, are_statements, is_constant_value, is_constant_initial, is_constant_list, are_constant_elements, is_constant_element, is_bound, is_constant_set, is_constant_start, is_statement_or, is_none, arms_fit, or_arms_fit, all_arms_fit, none_passed}
 use Rattle.cf_sequence.specs.Statements.{binds}
-use Rattle.cf_sequence.specs.Made.{Local, temporaries, temporaries_all, added, makes, width, width_maybe, width_all, declared, declared_all, held_by}
+use Rattle.cf_sequence.specs.Made.{Local, temporaries, temporaries_all, added, makes, width, width_maybe, width_all, declared, declared_maybe, declared_all, held_by}
 use Rattle.cf_sequence.specs.Expressions.{builds}
 use Rattle.cf_sequence.proofs.Calling.{never}
 
@@ -350,7 +350,12 @@ module _ (r : Name → Name) where
     pub same-declared : (s : Core) → declared (renamed r s) ≡ declared s
     same-declared (core.declare i t e) = ap (λ (xs : List Local). record { number = i; type = t } ∷ xs) (same-held e)
     same-declared (core.sequence es) = same-declared-all es
+    same-declared (core.branch c a b) = ap (λ (xs : List Local). xs ++ declared (renamed r a)) (same-declared-maybe b) ∙ ap (λ (xs : List Local). declared_maybe b ++ xs) (same-declared a)
     same-declared s = refl
+
+    same-declared-maybe : (b : MaybeCore) → declared_maybe (renamed_maybe r b) ≡ declared_maybe b
+    same-declared-maybe absent = refl
+    same-declared-maybe (given s) = same-declared s
 
     pub same-declared-all : (es : Cores) → declared_all (renamed_all r es) ≡ declared_all es
     same-declared-all none = refl
@@ -372,21 +377,26 @@ module _ (r : Name → Name) where
     same-next : (m : ℕ) (s : Core) → next_local m (renamed r s) ≡ next_local m s
     same-next m (core.declare i t e) = same-behind i e
     same-next m (core.sequence es) = same-nexts m es
+    same-next m (core.branch c a b) = ap (λ k. next_local_or k (renamed_maybe r b)) (same-next m a) ∙ same-next-or (next_local m a) b
     same-next m s = refl
+
+    same-next-or : (m : ℕ) (b : MaybeCore) → next_local_or m (renamed_maybe r b) ≡ next_local_or m b
+    same-next-or m absent = refl
+    same-next-or m (given s) = same-next m s
 
     same-nexts : (m : ℕ) (es : Cores) → next_locals m (renamed_all r es) ≡ next_locals m es
     same-nexts m none = refl
     same-nexts m (core.more s es) = ap (λ k. next_locals k (renamed_all r es)) (same-next m s) ∙ same-nexts (next_local m s) es
 
   mutual
-    same-declares : (s : Core) → declares_here (renamed r s) ≡ declares_here s
-    same-declares (core.declare i t e) = refl
-    same-declares (core.sequence es) = same-any-declares es
-    same-declares s = refl
+    same-arms : (s : Core) → arms_declare (renamed r s) ≡ arms_declare s
+    same-arms (core.sequence es) = same-any-arms es
+    same-arms (core.branch c a b) = ap (λ (xs : List Local). not (is_none xs)) (same-declared (core.branch c a b))
+    same-arms s = refl
 
-    same-any-declares : (es : Cores) → any_declares (renamed_all r es) ≡ any_declares es
-    same-any-declares none = refl
-    same-any-declares (core.more s rest) = ap (λ b. b || any_declares (renamed_all r rest)) (same-declares s) ∙ ap (λ b. declares_here s || b) (same-any-declares rest)
+    same-any-arms : (es : Cores) → any_arms_declare (renamed_all r es) ≡ any_arms_declare es
+    same-any-arms none = refl
+    same-any-arms (core.more s rest) = ap (λ b. b || any_arms_declare (renamed_all r rest)) (same-arms s) ∙ ap (λ b. arms_declare s || b) (same-any-arms rest)
 
   same-label : (s : Core) → is_label (renamed r s) ≡ is_label s
   same-label core.default_label = refl
@@ -406,8 +416,10 @@ module _ (r : Name → Name) where
     same-statement m (core.declare i t e) =
         ap (λ b. nat_le m i && (b || is_held i (renamed r e))) (same-element t e) ∙ ap (λ b. nat_le m i && (is_element t e || b)) (same-kept i e)
     same-statement m (core.branch c a b) =
-        two-same (is_value (renamed r c)) (is_statement m (renamed r a) && is_statement_or m (renamed_maybe r b)) (is_value c) (is_statement m a && is_statement_or m b) (same-value c)
-        (two-same (is_statement m (renamed r a)) (is_statement_or m (renamed_maybe r b)) (is_statement m a) (is_statement_or m b) (same-statement m a) (same-inner m b))
+        two-same (is_value (renamed r c)) (is_statement m (renamed r a) && is_statement_or (next_local m (renamed r a)) (renamed_maybe r b)) (is_value c)
+        (is_statement m a && is_statement_or (next_local m a) b) (same-value c)
+        (two-same (is_statement m (renamed r a)) (is_statement_or (next_local m (renamed r a)) (renamed_maybe r b)) (is_statement m a) (is_statement_or (next_local m a) b) (same-statement m a)
+        (ap (λ k. is_statement_or k (renamed_maybe r b)) (same-next m a) ∙ same-inner (next_local m a) b))
     same-statement m (core.loop f c e s) =
         two-same (is_condition (renamed_maybe r c)) (is_condition (renamed_maybe r e) && is_statement m (renamed r s)) (is_condition c) (is_condition e && is_statement m s) (same-condition c)
         (two-same (is_condition (renamed_maybe r e)) (is_statement m (renamed r s)) (is_condition e) (is_statement m s) (same-condition e) (same-statement m s))
@@ -433,34 +445,28 @@ module _ (r : Name → Name) where
         two-same (is_statement m (renamed r s)) (are_statements (next_local m (renamed r s)) (renamed_all r es)) (is_statement m s) (are_statements (next_local m s) es) (same-statement m s)
         (ap (λ k. are_statements k (renamed_all r es)) (same-next m s) ∙ same-statements (next_local m s) es)
 
-  same-arm : (last : Bool) (s : Core) → declares_last last (renamed r s) ≡ declares_last last s
-      → (last || not (declares_here (renamed r s))) && declares_last last (renamed r s) ≡ (last || not (declares_here s)) && declares_last last s
-  same-arm last s e =
-      two-same (last || not (declares_here (renamed r s))) (declares_last last (renamed r s)) (last || not (declares_here s)) (declares_last last s)
-      (ap (λ b. last || not b) (same-declares s)) e
-
   mutual
-    pub same-last : (last : Bool) (s : Core) → declares_last last (renamed r s) ≡ declares_last last s
-    same-last last (core.block es) = same-all-last true es
-    same-last last (core.sequence es) = same-all-last last es
-    same-last last (core.branch c a b) =
-        two-same ((last || not (declares_here (renamed r a))) && declares_last last (renamed r a)) (or_declares_last last (renamed_maybe r b))
-        ((last || not (declares_here a)) && declares_last last a) (or_declares_last last b) (same-arm last a (same-last last a)) (same-or-last last b)
-    same-last last (core.loop f c e s) = same-last true s
-    same-last last (core.switch e es) = same-none es
-    same-last last s = refl
+    pub same-fit : (n : ℕ) (s : Core) → arms_fit n (renamed r s) ≡ arms_fit n s
+    same-fit n (core.block es) = same-all-fit n es
+    same-fit n (core.sequence es) = same-all-fit n es
+    same-fit n (core.branch c a b) =
+        two-same (nat_le (next_local 0 (renamed r (core.branch c a b))) n) (arms_fit n (renamed r a) && or_arms_fit n (renamed_maybe r b)) (nat_le (next_local 0 (core.branch c a b)) n)
+        (arms_fit n a && or_arms_fit n b) (ap (λ k. nat_le k n) (same-next 0 (core.branch c a b)))
+        (two-same (arms_fit n (renamed r a)) (or_arms_fit n (renamed_maybe r b)) (arms_fit n a) (or_arms_fit n b) (same-fit n a) (same-or-fit n b))
+    same-fit n (core.loop f c e s) = same-fit n s
+    same-fit n (core.switch e es) = two-same (none_passed (renamed_all r es)) (all_arms_fit n (renamed_all r es)) (none_passed es) (all_arms_fit n es) (same-none es) (same-all-fit n es)
+    same-fit n s = refl
 
-    same-or-last : (last : Bool) (b : MaybeCore) → or_declares_last last (renamed_maybe r b) ≡ or_declares_last last b
-    same-or-last last absent = refl
-    same-or-last last (given s) = same-arm last s (same-last last s)
+    same-or-fit : (n : ℕ) (b : MaybeCore) → or_arms_fit n (renamed_maybe r b) ≡ or_arms_fit n b
+    same-or-fit n absent = refl
+    same-or-fit n (given s) = same-fit n s
 
-    same-all-last : (last : Bool) (es : Cores) → all_declare_last last (renamed_all r es) ≡ all_declare_last last es
-    same-all-last last none = refl
-    same-all-last last (core.more s none) = same-last last s
-    same-all-last last (core.more s (core.more e es)) =
-        two-same (declares_last false (renamed r s)) (all_declare_last last (renamed_all r (core.more e es))) (declares_last false s) (all_declare_last last (core.more e es))
-        (same-last false s) (same-all-last last (core.more e es))
+    same-all-fit : (n : ℕ) (es : Cores) → all_arms_fit n (renamed_all r es) ≡ all_arms_fit n es
+    same-all-fit n none = refl
+    same-all-fit n (core.more s es) = two-same (arms_fit n (renamed r s)) (all_arms_fit n (renamed_all r es)) (arms_fit n s) (all_arms_fit n es) (same-fit n s) (same-all-fit n es)
 
-    same-none : (es : Cores) → none_declares (renamed_all r es) ≡ none_declares es
+    same-none : (es : Cores) → none_passed (renamed_all r es) ≡ none_passed es
     same-none none = refl
-    same-none (core.more s es) = two-same (declares_last false (renamed r s)) (none_declares (renamed_all r es)) (declares_last false s) (none_declares es) (same-last false s) (same-none es)
+    same-none (core.more s es) =
+        two-same (not (arms_declare (renamed r s) && has_label (renamed_all r es))) (none_passed (renamed_all r es)) (not (arms_declare s && has_label es)) (none_passed es)
+        (ap (λ b. not (b && has_label (renamed_all r es))) (same-arms s) ∙ ap (λ b. not (arms_declare s && b)) (same-has-label es)) (same-none es)

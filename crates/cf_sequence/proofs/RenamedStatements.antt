@@ -118,16 +118,13 @@ module _ (r : Name → Name) where
         (or-else (is_element t e) (is_held i e) (both (nat_le m i) (is_element t e || is_held i e) ok).1
         (λ element. over-element r f.classes t e element t 0 k rest) (λ kept. over-kept r f.classes i t e kept 0 k rest))
     over-statement (core.branch q a b) m ok f pr k rest =
-        let parts = both (is_value q) (is_statement m a && is_statement_or m b) ok in
-        let arms = both (is_statement m a) (is_statement_or m b) parts.1 in
-        let yes : Plains = statement f a (k + width q) (finished (declared a) nothing) in
-        let yes_again : Plains = statement f (again a) (k + width (again q)) (finished (declared (again a)) nothing) in
-        let first : over yes ≡ yes_again =
-        over-statement a m arms.0 f pr (k + width q) (finished (declared a) nothing)
-        ∙ ap (statement f (again a) (k + width q)) (over-finished r (declared a) nothing ∙ ap (λ xs. finished xs nothing) (sym (same-declared r a)))
-        ∙ ap (λ w. statement f (again a) (k + w) (finished (declared (again a)) nothing)) (sym (same-width r q)) in
+        let parts = both (is_value q) (is_statement m a && is_statement_or (next_local m a) b) ok in
+        let arms = both (is_statement m a) (is_statement_or (next_local m a) b) parts.1 in
+        let yes : Plains = statement f a (k + width q) nothing in
+        let yes_again : Plains = statement f (again a) (k + width (again q)) nothing in
+        let first : over yes ≡ yes_again = over-statement a m arms.0 f pr (k + width q) nothing ∙ ap (λ w. statement f (again a) (k + w) nothing) (sym (same-width r q)) in
         let second : over (statement_or f b (k + width q + width a) nothing) ≡ statement_or f (renamed_maybe r b) (k + width (again q) + width (again a)) nothing =
-        over-or b m arms.1 f pr (k + width q + width a) nothing ∙ ap (λ w. statement_or f (renamed_maybe r b) (k + w + width a) nothing) (sym (same-width r q))
+        over-or b (next_local m a) arms.1 f pr (k + width q + width a) nothing ∙ ap (λ w. statement_or f (renamed_maybe r b) (k + w + width a) nothing) (sym (same-width r q))
         ∙ ap (λ w. statement_or f (renamed_maybe r b) (k + width (again q) + w) nothing) (sym (same-width r a)) in
         over-condition r f.classes q parts.0 k (λ n. more (branch n yes (statement_or f b (k + width q + width a) nothing)) rest)
         (λ n. more (branch n yes_again (statement_or f (renamed_maybe r b) (k + width (again q) + width (again a)) nothing)) (over rest))
@@ -172,9 +169,7 @@ module _ (r : Name → Name) where
     over-or : (b : MaybeCore) (m : ℕ) → is_statement_or m b ≡ true → (f : Inside) → is_class f.result ≡ false → (k : ℕ) (rest : Plains)
         → over (statement_or f b k rest) ≡ statement_or f (renamed_maybe r b) k (over rest)
     over-or absent m ok f pr k rest = refl
-    over-or (given s) m ok f pr k rest =
-        over-statement s m ok f pr k (finished (declared s) rest)
-        ∙ ap (statement f (again s) k) (over-finished r (declared s) rest ∙ ap (λ xs. finished xs (over rest)) (sym (same-declared r s)))
+    over-or (given s) m ok f pr k rest = over-statement s m ok f pr k rest
 
     over-statements : (es : Cores) (m : ℕ) → are_statements m es ≡ true → (f : Inside) → is_class f.result ≡ false → (k : ℕ) (rest : Plains)
         → over (statements f es k rest) ≡ statements f (renamed_all r es) k (over rest)

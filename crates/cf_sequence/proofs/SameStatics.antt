@@ -27,10 +27,10 @@ module _ (xs : List Static) where
     same-statement (core.sequence es) m ok f k rest = same-statements es m ok f k rest
     same-statement (core.declare i t e) m ok f k rest = refl
     same-statement (core.branch q a b) m ok f k rest =
-        let parts = both (is_value q) (is_statement m a && is_statement_or m b) ok in
-        let arms = both (is_statement m a) (is_statement_or m b) parts.1 in
-        ap (λ ss. condition f.classes q k (λ n. more (branch n ss (statement_or (over f) b (k + width q + width a) nothing)) rest)) (same-statement a m arms.0 f (k + width q) (finished (declared a) nothing))
-        ∙ ap (λ ss. condition f.classes q k (λ n. more (branch n (statement f a (k + width q) (finished (declared a) nothing)) ss) rest)) (same-or b m arms.1 f (k + width q + width a) nothing)
+        let parts = both (is_value q) (is_statement m a && is_statement_or (next_local m a) b) ok in
+        let arms = both (is_statement m a) (is_statement_or (next_local m a) b) parts.1 in
+        ap (λ ss. condition f.classes q k (λ n. more (branch n ss (statement_or (over f) b (k + width q + width a) nothing)) rest)) (same-statement a m arms.0 f (k + width q) nothing)
+        ∙ ap (λ ss. condition f.classes q k (λ n. more (branch n (statement f a (k + width q) nothing) ss) rest)) (same-or b (next_local m a) arms.1 f (k + width q + width a) nothing)
     same-statement (core.loop form.While q e body) m ok f k rest =
         let inner = (both (is_condition e) (is_statement m body) (both (is_condition q) (is_condition e && is_statement m body) ok).1).1 in
         ap (λ ss. looping f.classes q e k ss rest) (same-statement body m inner (in_loop f) (k + width_maybe q + width_maybe e) (finished (declared body) nothing))
@@ -52,7 +52,7 @@ module _ (xs : List Static) where
 
     same-or : (b : MaybeCore) (m : ℕ) → is_statement_or m b ≡ true → (f : Inside) (k : ℕ) (rest : Plains) → statement_or (over f) b k rest ≡ statement_or f b k rest
     same-or absent m ok f k rest = refl
-    same-or (given s) m ok f k rest = same-statement s m ok f k (finished (declared s) rest)
+    same-or (given s) m ok f k rest = same-statement s m ok f k rest
 
     same-statements : (es : Cores) (m : ℕ) → are_statements m es ≡ true → (f : Inside) (k : ℕ) (rest : Plains) → statements (over f) es k rest ≡ statements f es k rest
     same-statements none m ok f k rest = refl

@@ -14,7 +14,7 @@ use Rattle.cf_plain.specs.Acts.{Registers}
 use Rattle.cf_plain.specs.Running as running
 use Rattle.cf_plain.specs.Running.{Flow, Falls, Breaks, Continues, Returns, keep, falling, turning, all}
 use Rattle.cf_sequence.specs.Follows.{Follows}
-use Rattle.cf_sequence.specs.Built.{is_chain, next_local, declares_here, is_statement}
+use Rattle.cf_sequence.specs.Built.{is_chain, next_local, is_statement, arms_fit}
 use Rattle.cf_sequence.specs.Made.{Local, width, declared}
 use Rattle.cf_sequence.specs.Expressions.{finished}
 use Rattle.cf_sequence.specs.Statements.{statement, held}
@@ -23,8 +23,10 @@ use Rattle.cf_sequence.proofs.Calling.{Bodies}
 use Rattle.cf_sequence.proofs.Kept.{Kept}
 use Rattle.cf_sequence.proofs.PlainSteps.{runs_on}
 use Rattle.cf_sequence.proofs.Operands.{H}
-use Rattle.cf_sequence.proofs.Moving.{all_gone, gone-frame, gone-append, ends-all, Held, held-kept, held-parts, held-none, held-below, finished-steps, Moved, moved-count, moved-then, moved-kept, with_scope, moved-scope, moved-opened, moved-gone, Beyond}
-use Rattle.cf_sequence.proofs.Standing.{Open, inside_of, Stands, stands-later, inner-declared, Turns}
+use Rattle.cf_sequence.proofs.Moving.{Later, all_gone, gone-frame, gone-append, ends-all, Held, held-kept, finished-steps, Moved, moved-count, moved-then, moved-kept, with_scope, moved-scope, moved-opened, moved-gone, Beyond, Owned, owned-kept, owned-closed}
+use Rattle.cf_sequence.proofs.Lasting.{Keeps, Newer, Lasting}
+use Rattle.cf_sequence.proofs.Tested.{tested, lasting-on, told-on}
+use Rattle.cf_sequence.proofs.Standing.{Open, inside_of, Stands, stands-later, Turns}
 
 module _ (again : calling.Again) (again' : running.Again) (P : Program) (bodies : Bodies again again' P)
     (chains : (name : Name) (f : Function) → function_named P name ≡ Some f → is_chain f.type ≡ true)
@@ -32,54 +34,52 @@ module _ (again : calling.Again) (again' : running.Again) (P : Program) (bodies 
     (A B : Type 0) (S : A → State → B → State → Type 0) where
   -- the ways out of a statement
   pub record Ways (D : Beyond) (m : ℕ) (s : State) (f : Frame) (c : calling.Flow → Act A) (K : Flow → Act B) : Type 0 where
-    pub breaks : (t : State) (g : Frame) (h : Registers) (w : World) → Moved m s f t g
+    pub breaks : (t : State) (g : Frame) (h : Registers) (w : World) → Moved m s f t g → Owned D.params D.own t
         → Follows S (c calling.Breaks t w) (K (Breaks h) (with_frame g (all_gone (t.frame.scope ++ D.breaks) t)) w)
-    pub continues : (t : State) (g : Frame) (h : Registers) (w : World) → Moved m s f t g
+    pub continues : (t : State) (g : Frame) (h : Registers) (w : World) → Moved m s f t g → Owned D.params D.own t
         → Follows S (c calling.Continues t w) (K (Continues h) (with_frame g (all_gone (t.frame.scope ++ D.continues) t)) w)
-    pub returns : (v : Value) (t : State) (g : Frame) (w : World) → Moved m s f t g
+    pub returns : (v : Value) (t : State) (g : Frame) (w : World) → Moved m s f t g → Owned D.params D.own t
         → Follows S (c (calling.Returns v) t w) (K (Returns v) (with_frame g (all_gone (t.frame.scope ++ D.returns) t)) w)
 
   pub ways-later : (D : Beyond) (m n : ℕ) (s : State) (f : Frame) (t : State) (g : Frame) (c : calling.Flow → Act A) (K : Flow → Act B)
       → m ≤ n → Moved m s f t g → Ways D m s f c K → Ways D n t g c K
   ways-later D m n s f t g c K le v ways = record {
-    breaks = λ u h r w v2. ways.breaks u h r w (moved-then m n s f t g u h le v v2);
-    continues = λ u h r w v2. ways.continues u h r w (moved-then m n s f t g u h le v v2);
-    returns = λ x u h w v2. ways.returns x u h w (moved-then m n s f t g u h le v v2);
+    breaks = λ u h r w v2 owned. ways.breaks u h r w (moved-then m n s f t g u h le v v2) owned;
+    continues = λ u h r w v2 owned. ways.continues u h r w (moved-then m n s f t g u h le v v2) owned;
+    returns = λ x u h w v2 owned. ways.returns x u h w (moved-then m n s f t g u h le v v2) owned;
   }
 
   -- the end of a statement that falls through, with these locals in the scope at hand
-  abbrev pub Fallen : (n : ℕ) (xs : List Local) (m : ℕ) (c : calling.Flow → Act A) (K : Flow → Act B) (rest : Plains) (s : State) (f : Frame) → Type 0
-  Fallen n xs m c K rest s f =
-      (t : State) (g : Frame) (h : Registers) (w : World) → Moved m s f t g → Held g.locals n xs t.frame.scope → n ≤ t.frame.count
+  abbrev pub Fallen : (D : Beyond) (n : ℕ) (xs : List Local) (m : ℕ) (c : calling.Flow → Act A) (K : Flow → Act B) (rest : Plains) (s : State) (f : Frame) → Type 0
+  Fallen D n xs m c K rest s f =
+      (t : State) (g : Frame) (h : Registers) (w : World) → Moved m s f t g → Held t g.locals n xs t.frame.scope → n ≤ t.frame.count → Owned D.params D.own t
       → Follows S (c calling.Falls t w) (runs_on again' (H again again' P) rest h K (with_frame g t) w)
 
-  -- The same where that is the last statement of its scope: then the plain statements may have ended the newest objects of the scope already.
-  abbrev pub FallenAt : Bool → (n : ℕ) (xs : List Local) (m : ℕ) (c : calling.Flow → Act A) (K : Flow → Act B) (rest : Plains) (s : State) (f : Frame) → Type 0
-  FallenAt last n xs m c K rest s f =
-      (t : State) (g : Frame) (h : Registers) (w : World) → Moved m s f t g → (os ps : List ℕ) → t.frame.scope ≡ os ++ ps → (last ≡ false → os ≡ []) → Held g.locals n xs ps → n ≤ t.frame.count
-      → Follows S (c calling.Falls t w) (runs_on again' (H again again' P) rest h K (with_frame g (all_gone os t)) w)
-
-  pub fallen : (last : Bool) (n : ℕ) (xs : List Local) (m : ℕ) (c : calling.Flow → Act A) (K : Flow → Act B) (rest : Plains) (s : State) (f : Frame)
-      → FallenAt last n xs m c K rest s f → Fallen n xs m c K rest s f
-  fallen last n xs m c K rest s f falls t g h w v held low = falls t g h w v [] t.frame.scope refl (λ e. refl) held low
-
-  pub fallen-at : (n : ℕ) (xs : List Local) (m : ℕ) (c : calling.Flow → Act A) (K : Flow → Act B) (rest : Plains) (s : State) (f : Frame)
-      → Fallen n xs m c K rest s f → FallenAt false n xs m c K rest s f
-  fallen-at n xs m c K rest s f falls t g h w v os ps split early held low =
-      let empty : os ≡ [] = early refl in
-      subst (λ qs. Follows S (c calling.Falls t w) (runs_on again' (H again again' P) rest h K (with_frame g (all_gone qs t)) w)) (sym empty)
-      (falls t g h w v (subst (λ qs. Held g.locals n xs qs) (sym (split ∙ ap (λ qs. qs ++ ps) empty)) held) low)
-
   -- behind an expression
-  pub fall-on : (o : Open) (D : Beyond) (m k : ℕ) (c : calling.Flow → Act A) (K : Flow → Act B) (rest : Plains) (s : State) (f : Frame) → Stands o D m k s f → Fallen m o.here m c K rest s f
-      → (t : State) (g : Frame) (h : Registers) (w : World) → t.frame ≡ s.frame → Kept k f g → Follows S (c calling.Falls t w) (runs_on again' (H again again' P) rest h K (with_frame g t) w)
-  fall-on o D m k c K rest s f st falls t g h w same kept =
+  pub fall-on : (o : Open) (D : Beyond) (m k : ℕ) (c : calling.Flow → Act A) (K : Flow → Act B) (rest : Plains) (s : State) (f : Frame) → Stands o D m k s f → Fallen D m o.here m c K rest s f
+      → (t : State) (g : Frame) (h : Registers) (w : World) → t.frame ≡ s.frame → Kept k f g → Later s t → Follows S (c calling.Falls t w) (runs_on again' (H again again' P) rest h K (with_frame g t) w)
+  fall-on o D m k c K rest s f st falls t g h w same kept later =
       let c1 = st.ready.count in
       let le : m ≤ k = (let l = st.low in omega arith) in
-      let v : Moved m s f t g = moved-kept m k s f t g le st.ready same kept in
+      let v : Moved m s f t g = moved-kept m k s f t g le st.ready same kept later in
       falls t g h w v
-      (subst (λ (e : Frame). Held g.locals m o.here e.scope) (sym same) (held-kept f.locals g.locals m m o.here s.frame.scope st.here (omega arith) v.below))
-      (let e = moved-count m s f t g v in let l = st.low in omega arith)
+      (subst (λ (e : Frame). Held t g.locals m o.here e.scope) (sym same) (held-kept s t f.locals g.locals m m o.here s.frame.scope later st.here (omega arith) v.below))
+      (let e = moved-count m s f t g v in let l = st.low in omega arith) (owned-kept D.params D.own s t st.owned same later)
+
+  -- what an act of the core leaves is known behind it
+  pub lasts-on : {V : Type 0} (o : Open) (D : Beyond) (m k : ℕ) (s : State) (f : Frame) (w : World) → Stands o D m k s f → (act : Act V) → Keeps (Lasting s.next s.object s.frame.scope) act → (c : V → Act A) (y : Ran (Did B))
+      → Follows S (and_then (act s w) (on (tested s.next s.object c))) y → Follows S (and_then (act s w) (on c)) y
+  lasts-on o D m k s f w st act keeps c y h =
+      lasting-on s.next s.object s.frame.scope s w act keeps
+      (record {
+        next = omega arith;
+        objects = λ o lt. record { type = refl; life = refl; gone = refl };
+        temporaries = subst (Newer s.next) (sym st.empty) tt;
+        scope = record { newer = []; parts = refl; new = tt };
+      }) c y h
+
+  pub told : {V : Type 0} (s : State) (c : V → Act A) (v : V) (t : State) (w : World) (y : Ran (Did B)) → (Later s t → Follows S (c v t w) y) → Follows S (tested s.next s.object c v t w) y
+  told s c v t w y next = told-on s s.next s.object refl refl c v t w y next
 
   -- ---- scopes
 
@@ -105,58 +105,53 @@ module _ (again : calling.Again) (again' : running.Again) (P : Program) (bodies 
   moved-out m s f t g v =
       moved-scope m s f (all_gone t.frame.scope t) g s.frame.scope (moved-gone m s f t g t.frame.scope (moved-opened m s [] f t g v))
 
+  -- what stands beyond a scope that opens
+  abbrev pub within : State → Beyond → Beyond
+  within s D = record {
+    breaks = s.frame.scope ++ D.breaks;
+    continues = s.frame.scope ++ D.continues;
+    returns = s.frame.scope ++ D.returns;
+    own = s.frame.scope ++ D.own;
+    params = D.params;
+  }
+
   -- the ways out of a block are those of what it stands in
   pub block-ways : (D : Beyond) (m : ℕ) (s : State) (f : Frame) (c : calling.Flow → Act A) (K : Flow → Act B) → Ways D m s f c K
-      → Ways (record { breaks = s.frame.scope ++ D.breaks; continues = s.frame.scope ++ D.continues; returns = s.frame.scope ++ D.returns }) m (with_scope [] s) f
-      (λ flow. closing_scope s.frame.scope flow >>= c) K
+      → Ways (within s D) m (with_scope [] s) f (λ flow. closing_scope s.frame.scope flow >>= c) K
   block-ways D m s f c K ways = record {
-    breaks = λ t g h w v.
+    breaks = λ t g h w v owned.
         scope-steps s.frame.scope calling.Breaks t w c _
         (subst (λ u. Follows S (c calling.Breaks (with_scope s.frame.scope (all_gone t.frame.scope t)) w) (K (Breaks h) u w))
         (scope-gone (s.frame.scope ++ D.breaks) t.frame.scope t g (record (all_gone t.frame.scope t).frame { scope = s.frame.scope }))
-        (ways.breaks (with_scope s.frame.scope (all_gone t.frame.scope t)) g h w (moved-out m s f t g v)));
-    continues = λ t g h w v.
+        (ways.breaks (with_scope s.frame.scope (all_gone t.frame.scope t)) g h w (moved-out m s f t g v) (owned-closed D.params D.own s.frame.scope t owned)));
+    continues = λ t g h w v owned.
         scope-steps s.frame.scope calling.Continues t w c _
         (subst (λ u. Follows S (c calling.Continues (with_scope s.frame.scope (all_gone t.frame.scope t)) w) (K (Continues h) u w))
         (scope-gone (s.frame.scope ++ D.continues) t.frame.scope t g (record (all_gone t.frame.scope t).frame { scope = s.frame.scope }))
-        (ways.continues (with_scope s.frame.scope (all_gone t.frame.scope t)) g h w (moved-out m s f t g v)));
-    returns = λ x t g w v.
+        (ways.continues (with_scope s.frame.scope (all_gone t.frame.scope t)) g h w (moved-out m s f t g v) (owned-closed D.params D.own s.frame.scope t owned)));
+    returns = λ x t g w v owned.
         scope-steps s.frame.scope (calling.Returns x) t w c _
         (subst (λ u. Follows S (c (calling.Returns x) (with_scope s.frame.scope (all_gone t.frame.scope t)) w) (K (Returns x) u w))
         (scope-gone (s.frame.scope ++ D.returns) t.frame.scope t g (record (all_gone t.frame.scope t).frame { scope = s.frame.scope }))
-        (ways.returns x (with_scope s.frame.scope (all_gone t.frame.scope t)) g w (moved-out m s f t g v)));
+        (ways.returns x (with_scope s.frame.scope (all_gone t.frame.scope t)) g w (moved-out m s f t g v) (owned-closed D.params D.own s.frame.scope t owned)));
   }
 
-  -- the end of a scope, of which the newest objects have ended already
+  -- the end of a scope
   pub close-steps : (n : ℕ) (xs : List Local) (os : List ℕ) (rest : Plains) (c : calling.Flow → Act A) (K : Flow → Act B) (flow : calling.Flow)
-      (t : State) (g : Frame) (h : Registers) (w : World) (ps qs : List ℕ)
-      → t.frame.scope ≡ ps ++ qs → Held g.locals n (xs ++ []) qs
+      (t : State) (g : Frame) (h : Registers) (w : World)
+      → Held t g.locals n (xs ++ []) t.frame.scope
       → Follows S (c flow (with_scope os (all_gone t.frame.scope t)) w) (runs_on again' (H again again' P) rest h K (with_frame g (all_gone t.frame.scope t)) w)
-      → Follows S (and_then (closing_scope os flow t w) (on c)) (runs_on again' (H again again' P) (finished xs rest) h K (with_frame g (all_gone ps t)) w)
-  close-steps n xs os rest c K flow t g h w ps qs split held next =
-      finished-steps again' (H again again' P) classless A B S xs qs n rest h K _ (all_gone ps t) g w
-      (subst (λ ys. Held g.locals n ys qs) (append-nil xs) held)
-      (subst (λ z. Follows S (and_then (closing_scope os flow t w) (on c)) (runs_on again' (H again again' P) rest h K (with_frame g z) w)) (scope-ended ps qs t split)
-      (scope-steps os flow t w c _ next))
+      → Follows S (and_then (closing_scope os flow t w) (on c)) (runs_on again' (H again again' P) (finished xs rest) h K (with_frame g t) w)
+  close-steps n xs os rest c K flow t g h w held next =
+      finished-steps again' (H again again' P) classless A B S xs t.frame.scope n rest h K _ t g w (subst (λ ys. Held t g.locals n ys t.frame.scope) (append-nil xs) held)
+      (scope-steps os flow t w c _ next)
 
   abbrev pub Does : Core → Type 0
   Does st =
       (m : ℕ) → is_statement m st ≡ true → (o : Open) (D : Beyond) (k : ℕ) (rest : Plains) (g : Registers) (s : State) (f : Frame) (w : World)
-      (c : calling.Flow → Act A) (K : Flow → Act B)
-      → Stands o D m k s f → k + width st ≤ f.count → Ways D m s f c K → Fallen (next_local m st) (declared st ++ o.here) m c K rest s f
+      (c : calling.Flow → Act A) (K : Flow → Act B) → arms_fit s.frame.count st ≡ true
+      → Stands o D m k s f → k + width st ≤ f.count → Ways D m s f c K → Fallen D (next_local m st) (declared st ++ o.here) m c K rest s f
       → Follows S (and_then (does.does again P st s w) (on c)) (runs_on again' (H again again' P) (statement (inside_of P R C o) st k rest) g K (with_frame f s) w)
-
-  -- where a statement may be the last of its scope
-  abbrev pub DoesAt : Bool → Core → Type 0
-  DoesAt last st =
-      (m : ℕ) → is_statement m st ≡ true → (o : Open) (D : Beyond) (k : ℕ) (rest : Plains) (g : Registers) (s : State) (f : Frame) (w : World)
-      (c : calling.Flow → Act A) (K : Flow → Act B)
-      → Stands o D m k s f → k + width st ≤ f.count → Ways D m s f c K → FallenAt last (next_local m st) (declared st ++ o.here) m c K rest s f
-      → Follows S (and_then (does.does again P st s w) (on c)) (runs_on again' (H again again' P) (statement (inside_of P R C o) st k rest) g K (with_frame f s) w)
-
-  pub does-first : (st : Core) → DoesAt false st → Does st
-  does-first st does-it m ok o D k rest g s f w c K st0 room ways falls =
-      does-it m ok o D k rest g s f w c K st0 room ways (fallen-at (next_local m st) (declared st ++ o.here) m c K rest s f falls)
 
   pub by-or : {X : Type 0} (a b : Bool) → (a || b) ≡ true → (a ≡ true → X) → (b ≡ true → X) → X
   by-or true b ok f g = f refl
@@ -169,36 +164,16 @@ module _ (again : calling.Again) (again' : running.Again) (P : Program) (bodies 
   pub ways-behind : (rest : Plains) (D : Beyond) (m : ℕ) (s : State) (f : Frame) (c : calling.Flow → Act A) (K : Flow → Act B) → Ways D m s f c K → Ways D m s f c (behind rest K)
   ways-behind rest D m s f c K ways = record { breaks = ways.breaks; continues = ways.continues; returns = ways.returns }
 
-  -- one arm of a branch: what it declares in the scope at hand ends with it, where that is the last statement of the scope
-  pub arm-steps : (last : Bool) (a : Core) → DoesAt last a → (last || not (declares_here a)) ≡ true → (m : ℕ) → is_statement m a ≡ true
-      → (o : Open) (D : Beyond) (k l : ℕ) (rest : Plains) (h : Registers) (s : State) (f : Frame) (t : State) (g : Frame) (w : World) (c : calling.Flow → Act A) (K : Flow → Act B)
-      → Stands o D m k s f → Moved m s f t g → Stands o D m l t g → l + width a ≤ g.count → Ways D m s f c K → FallenAt last m o.here m c K rest s f
-      → Follows S (and_then (does.does again P a t w) (on c))
-      (runs_on again' (H again again' P) (statement (inside_of P R C o) a l (finished (declared a) nothing)) h (behind rest K) (with_frame g t) w)
-  arm-steps last a does-a placed m ok o D k l rest h s f t g w c K st v st1 room ways falls =
-      does-a m ok o D l (finished (declared a) nothing) h t g w c (behind rest K) st1 room (ways-behind rest D m t g c K (ways-later D m m s f t g c K (omega arith) v ways))
-      (λ u g2 h2 w2 v2 os ps split early held low.
-      let both = held-parts g2.locals (next_local m a) (declared a) o.here ps held in
-      let later : Moved m s f u g2 = moved-then m m s f t g u g2 (omega arith) v v2 in
-      finished-steps again' (H again again' P) classless A B S (declared a) both.first (next_local m a) nothing h2 (behind rest K) _ (all_gone os u) g2 w2 both.first_held
-      (subst (λ z. Follows S (c calling.Falls u w2) (runs_on again' (H again again' P) rest h2 K (with_frame g2 z) w2)) (gone-append os both.first u)
-      (falls u g2 h2 w2 later (os ++ both.first) both.second (split ∙ ap (λ qs. os ++ qs) both.parts ∙ sym (append_assoc os both.first both.second))
-      (λ e.
-      ap (λ qs. qs ++ both.first) (early e)
-      ∙ held-none g2.locals (next_local m a) both.first
-      (subst (λ xs. Held g2.locals (next_local m a) xs both.first) (inner-declared a (subst (λ b. (b || not (declares_here a)) ≡ true) e placed)) both.first_held))
-      (held-below f.locals g2.locals m (next_local m a) o.here s.frame.scope both.second st.here both.second_held)
-      (let e = moved-count m s f u g2 later in let first = st.low in omega arith))))
-
   -- behind a condition
-  pub stands-on : (o : Open) (D : Beyond) (m k l : ℕ) (s : State) (f : Frame) (t : State) (g : Frame) → Stands o D m k s f → t.frame ≡ s.frame → Kept k f g → k ≤ l → l ≤ f.count
+  pub stands-on : (o : Open) (D : Beyond) (m k l : ℕ) (s : State) (f : Frame) (t : State) (g : Frame) → Stands o D m k s f → t.frame ≡ s.frame → Kept k f g → Later s t → k ≤ l → l ≤ f.count
       → Moved m s f t g × Stands o D m l t g
-  stands-on o D m k l s f t g st same kept le room =
+  stands-on o D m k l s f t g st same kept later le room =
       let c1 = st.ready.count in
       let m-le : m ≤ k = (let low = st.low in omega arith) in
-      let v : Moved m s f t g = moved-kept m k s f t g m-le st.ready same kept in
+      let v : Moved m s f t g = moved-kept m k s f t g m-le st.ready same kept later in
       let count : g.count ≡ f.count = ap (λ (x : Frame). x.count) kept.frame in (
         v,
         stands-later o D m m k l o.here s f t g st v (omega arith) (let e = moved-count m s f t g v in let low = st.low in omega arith) le (omega arith)
-            (subst (λ (e : Frame). Held g.locals m o.here e.scope) (sym same) (held-kept f.locals g.locals m m o.here s.frame.scope st.here (omega arith) v.below)),
+            (subst (λ (e : Frame). Held t g.locals m o.here e.scope) (sym same) (held-kept s t f.locals g.locals m m o.here s.frame.scope later st.here (omega arith) v.below))
+            (owned-kept D.params D.own s t st.owned same later) st.above_here,
       )

@@ -113,7 +113,7 @@ module _ (again : calling.Again) (again' : running.Again) (P : Program) (bodies 
         subst (λ b. Follows S (and_then ((when b (changed (λ s. record s { finished = q ∷ s.finished })) done >> gives (At (root q))) t w1) (on closes)) (runs_on again' G last h1 K (with_frame f1 t) w1))
         (sym (not-destroyed P classless (static_type P name)))
         (first-steps again again' P bodies chains A B S 0 m p (At (root q)) h1 after shuts K t f1 w1 first place (λ t1 same1.
-        closing-steps again again' P bodies chains classless A B S x ts made s.frame t1 h1 f1 w1 tt c rest K (same1 ∙ same) listed (λ t2 same2.
+        closing-steps again again' P bodies chains classless A B S x ts made s.frame t1 h1 f1 w1 tt c rest K (same1 ∙ same) listed (λ t2 same2 later.
         next t2 h1 f1 w1 same2 kept)))
 
     by-number : (n : Option ℕ) → static_number P name ≡ n → (h0 : Registers) → Cleared x ts h h0

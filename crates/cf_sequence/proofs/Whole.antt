@@ -25,7 +25,7 @@ use Rattle.cf_plain.specs.Program.{PlainMean, headers}
 use Rattle.cf_plain.specs.Running as running
 use Rattle.cf_plain.specs.Running.{Flow, Falls, Breaks, Continues, Returns, calls, core_flow, header, plain_named, all, falling, turning}
 use Rattle.cf_sequence.specs.Follows.{Follows}
-use Rattle.cf_sequence.specs.Built.{is_statement, is_chain, is_body, is_built_function, is_plain_role, is_plainly_built, is_built_setting, is_none, next_local, declares_last}
+use Rattle.cf_sequence.specs.Built.{is_statement, is_chain, is_body, is_built_function, is_plain_role, is_plainly_built, is_built_setting, is_none, next_local, arms_fit}
 use Rattle.cf_sequence.specs.Made.{Local, added, width, declared, numbered}
 use Rattle.cf_sequence.specs.Expressions.{finished}
 use Rattle.cf_sequence.specs.Statements.{statement}
@@ -34,51 +34,38 @@ use Rattle.cf_core.specs.Valid.{class_of_role}
 use Rattle.cf_sequence.proofs.StaticObjects.{same-first}
 use Rattle.cf_sequence.proofs.Following.{on, pull}
 use Rattle.cf_sequence.proofs.Calling.{Alike, Bodies, FlowAs, SameObjects, Ended, never, named-header, found-steps, plain_program as plain_of, plain_function as beside}
-use Rattle.cf_sequence.proofs.Moving.{all_gone, gone-frame, gone-append, ends-all, destroy-nothing, Held, held-kept, finished-steps, Moved, with_scope, Beyond}
+use Rattle.cf_sequence.proofs.Moving.{later-then, later-gone, all_gone, gone-frame, gone-append, ends-all, destroy-nothing, Picked, is_next, is_over, Held, held-more, held-append, held-kept, finished-steps, Moved, with_scope, Beyond, Owned}
 use Rattle.cf_sequence.proofs.Standing.{Open, Stands, Turned, Turns, inside_of, turn_code, step_code}
-use Rattle.cf_sequence.proofs.Scopes.{Ways, fallen-at, scope-ended, scope-steps, closing_scope}
+use Rattle.cf_sequence.proofs.Scopes.{Ways, scope-steps, closing_scope}
 use Rattle.cf_sequence.proofs.Doing.{follow-statement}
 use Rattle.cf_sequence.proofs.LastingCode.{Rests, rests-at}
 use Rattle.cf_sequence.proofs.Settings.{setting_of, first-stood, settings-steps}
 
 -- ---- the objects of parameters
 
-held-numbered : (locals : ℕ → Option ℕ) (j m : ℕ) (ts : List SourceType) (os : List ℕ) → length os ≡ length ts → j + length ts ≤ m
-    → ((i n : ℕ) → n ≡ j + i → locals n ≡ slice_get os i) → Held locals m (numbered j ts) os
-held-numbered locals j m [] [] l le at = tt
-held-numbered locals j m [] (o ∷ os) l le at = absurd (omega (arith, l))
-held-numbered locals j m (t ∷ ts) [] l le at = absurd (omega (arith, l))
-held-numbered locals j m (t ∷ ts) (o ∷ os) l le at = (
-  at 0 j (omega arith),
-  omega arith,
-  held-numbered locals (suc j) m ts os (let e : suc (length os) ≡ suc (length ts) = l in omega arith) (let e : j + suc (length ts) ≤ m = le in omega arith)
-      (λ i n e. at (suc i) n (omega arith)),
-)
+held-numbered : (r : State) (locals : ℕ → Option ℕ) (j m : ℕ) (ts : List SourceType) (os : List ℕ) → length os ≡ length ts → j + length ts ≤ m
+    → ((i n : ℕ) → n ≡ j + i → locals n ≡ slice_get os i) → Held r locals m (numbered j ts) os
+held-numbered r locals j m [] [] l le at = refl
+held-numbered r locals j m [] (o ∷ os) l le at = absurd (omega (arith, l))
+held-numbered r locals j m (t ∷ ts) [] l le at = absurd (omega (arith, l))
+held-numbered r locals j m (t ∷ ts) (o ∷ os) l le at =
+    held-more r locals m (record { number = j; type = t }) (numbered (suc j) ts) o os (at 0 j (omega arith)) (omega arith)
+    (held-numbered r locals (suc j) m ts os (let e : suc (length os) ≡ suc (length ts) = l in omega arith) (let e : j + suc (length ts) ≤ m = le in omega arith)
+    (λ i n e. at (suc i) n (omega arith)))
 
-held-together : (locals : ℕ → Option ℕ) (m : ℕ) (xs ys : List Local) (os ps : List ℕ) → Held locals m xs os → Held locals m ys ps → Held locals m (xs ++ ys) (os ++ ps)
-held-together locals m [] ys [] ps h k = k
-held-together locals m [] ys (o ∷ os) ps h k = absurd h
-held-together locals m (x ∷ xs) ys [] ps h k = absurd h
-held-together locals m (x ∷ xs) ys (o ∷ os) ps h k = (h.0, h.1, held-together locals m xs ys os ps h.2 k)
-
-held-reverse : (locals : ℕ → Option ℕ) (m : ℕ) (xs : List Local) (os : List ℕ) → Held locals m xs os → Held locals m (reverse xs) (reverse os)
-held-reverse locals m [] [] h = tt
-held-reverse locals m [] (o ∷ os) h = absurd h
-held-reverse locals m (x ∷ xs) [] h = absurd h
-held-reverse locals m (x ∷ xs) (o ∷ os) h =
-    subst (λ zs. Held locals m zs (reverse (o ∷ os))) (sym (reverse-append (x ∷ []) xs))
-    (subst (λ ps. Held locals m (reverse xs ++ x ∷ []) ps) (sym (reverse-append (o ∷ []) os))
-    (held-together locals m (reverse xs) (x ∷ []) (reverse os) (o ∷ []) (held-reverse locals m xs os h.2) (h.0, h.1, tt)))
-
-held-same : (locals later : ℕ → Option ℕ) (m : ℕ) (xs : List Local) (os ps : List ℕ) → Held locals m xs os → Held later m xs ps → ((i : ℕ) → i < m → later i ≡ locals i) → os ≡ ps
-held-same locals later m [] [] [] h k same = refl
-held-same locals later m [] (o ∷ os) ps h k same = absurd h
-held-same locals later m [] [] (p ∷ ps) h k same = absurd k
-held-same locals later m (x ∷ xs) [] ps h k same = absurd h
-held-same locals later m (x ∷ xs) (o ∷ os) [] h k same = absurd k
-held-same locals later m (x ∷ xs) (o ∷ os) (p ∷ ps) h k same =
-    let there : Some o ≡ Some p = sym (same x.number h.1 ∙ h.0) ∙ k.0 in
-    ap (λ (y : Option ℕ). (elim y as (λ z. ℕ) [ None ↦ o | Some z ↦ z ]) ∷ os) there ∙ ap (λ (zs : List ℕ). p ∷ zs) (held-same locals later m xs os ps h.2 k.2 same)
+held-reverse : (r : State) (locals : ℕ → Option ℕ) (m : ℕ) (xs : List Local) (os : List ℕ) → Held r locals m xs os → Held r locals m (reverse xs) (reverse os)
+held-reverse r locals m [] os h = ap reverse h
+held-reverse r locals m (x ∷ xs) os h = by h.1 (λ ps rest. held-reverse r locals m xs ps rest)
+  where
+    by : Picked r (locals x.number) (λ ps. Held r locals m xs ps) os → ((ps : List ℕ) → Held r locals m xs ps → Held r locals m (reverse xs) (reverse ps)) → Held r locals m (reverse (x ∷ xs)) (reverse os)
+    by (is_next o ps at split rest) go =
+        subst (λ zs. Held r locals m zs (reverse os)) (sym (reverse-append (x ∷ []) xs))
+        (subst (λ qs. Held r locals m (reverse xs ++ x ∷ []) qs) (sym (ap reverse split ∙ reverse-append (o ∷ []) ps))
+        (held-append r locals m (reverse xs) (x ∷ []) (reverse ps) (o ∷ []) (go ps rest) (held-more r locals m x [] o [] at h.0 refl)))
+    by (is_over over rest) go =
+        subst (λ zs. Held r locals m zs (reverse os)) (sym (reverse-append (x ∷ []) xs))
+        (subst (λ qs. Held r locals m (reverse xs ++ x ∷ []) qs) (append-nil (reverse os))
+        (held-append r locals m (reverse xs) (x ∷ []) (reverse os) [] (go os rest) (h.0, is_over over refl)))
 
 -- ---- functions by name
 
@@ -164,7 +151,7 @@ pub record Parts (f : Function) : Type 0 where
   pub main : (not (bytes_eq f.name (codes "__main")) || is_none (parameters f.type)) ≡ true
   pub scalar : is_class (result f.type) ≡ false
   pub statement : is_statement (length (parameters f.type)) f.body ≡ true
-  pub last : declares_last true f.body ≡ true
+  pub arms : arms_fit (length (parameters f.type) + length f.locals) f.body ≡ true
 
 pub built-parts : (f : Function) → is_built_function f ≡ true → Parts f
 built-parts f ok =
@@ -172,9 +159,9 @@ built-parts f ok =
     let one = both (is_plain_role f.role) (is_chain f.type && (main_ok && is_body f)) ok in
     let two = both (is_chain f.type) (main_ok && is_body f) one.1 in
     let three = both main_ok (is_body f) two.1 in
-    let four = both (not (is_class (result f.type))) (is_statement (length (parameters f.type)) f.body && declares_last true f.body) three.1 in
-    let five = both (is_statement (length (parameters f.type)) f.body) (declares_last true f.body) four.1 in
-    record { role = role-is f.role one.0; chain = two.0; main = three.0; scalar = no-result (is_class (result f.type)) four.0; statement = five.0; last = five.1 }
+    let four = both (not (is_class (result f.type))) (is_statement (length (parameters f.type)) f.body && arms_fit (length (parameters f.type) + length f.locals) f.body) three.1 in
+    let five = both (is_statement (length (parameters f.type)) f.body) (arms_fit (length (parameters f.type) + length f.locals) f.body) four.1 in
+    record { role = role-is f.role one.0; chain = two.0; main = three.0; scalar = no-result (is_class (result f.type)) four.0; statement = five.0; arms = five.1 }
 
 module _ (again : calling.Again) (again' : running.Again) (xs : List Static) (ks : List Setting) (fs : List Function) (bodies : Bodies again again' (of_parts xs ks fs))
     (chains : (name : Name) (f : Function) → function_named (of_parts xs ks fs) name ≡ Some f → is_chain f.type ≡ true)
@@ -210,7 +197,7 @@ module _ (again : calling.Again) (again' : running.Again) (xs : List Static) (ks
     all-returned : (t : State) (g : Frame) → with_frame g (all_gone (t.frame.scope ++ reverse args) t) ≡ with_frame g (all_gone (reverse args) (with_scope [] (all_gone t.frame.scope t)))
     all-returned t g = ap (with_frame g) (gone-append t.frame.scope (reverse args) t) ∙ all-ended t g
 
-  body-follows : (f : Function) → is_class (result f.type) ≡ false → is_statement (length (parameters f.type)) f.body ≡ true → declares_last true f.body ≡ true → (args : List ℕ) → length args ≡ length (parameters f.type)
+  body-follows : (f : Function) → is_class (result f.type) ≡ false → is_statement (length (parameters f.type)) f.body ≡ true → arms_fit (length (parameters f.type) + length f.locals) f.body ≡ true → (args : List ℕ) → length args ≡ length (parameters f.type)
       → (depth : ℕ) (s : State) (w : World)
       → Follows Ended
       (and_then (in_scope again P (does.does again P f.body) (with_frame (frame_of f.name (local_count f) args None None depth) s) w)
@@ -226,41 +213,57 @@ module _ (again : calling.Again) (again' : running.Again) (xs : List Static) (ks
       let R : SourceType = result f.type in
       let C : SourceType = class_type (class_of_role f.role) in
       let params : List Local = reverse (numbered 0 (parameters f.type)) in
-      let o : Open = record { here = []; breaks = []; continues = []; returns = params } in
-      let D : Beyond = record { breaks = []; continues = []; returns = reverse args } in
-      let held : Held (λ i. slice_get args i) m params (reverse args) =
-      held-reverse (λ i. slice_get args i) m (numbered 0 (parameters f.type)) args
-      (held-numbered (λ i. slice_get args i) 0 m (parameters f.type) args many (omega arith) (λ i n e. ap (slice_get args) (let x : n ≡ i = omega arith in x))) in
+      let o : Open = record { here = []; breaks = []; continues = []; returns = params; own = [] } in
+      let D : Beyond = record { breaks = []; continues = []; returns = reverse args; own = []; params = m } in
+      let held : Held s0 (λ i. slice_get args i) m params (reverse args) =
+      held-reverse s0 (λ i. slice_get args i) m (numbered 0 (parameters f.type)) args
+      (held-numbered s0 (λ i. slice_get args i) 0 m (parameters f.type) args many (omega arith) (λ i n e. ap (slice_get args) (let x : n ≡ i = omega arith in x))) in
       let room : k + length (added (nodes f.body)) ≤ g.count = omega arith in
       subst (λ b. Follows Ended (and_then (in_scope again P (does.does again P f.body) s0 w) (on (last R C scalar args)))
       (and_then (all again' H (statement (inside_of P R C o) f.body k (finished (declared f.body) (if b then nothing else finished params nothing))) no_registers (with_frame g s) w) (on gives)))
       (sym scalar)
       (pull (does.does again P f.body s0 w) (closes R C scalar args) (last R C scalar args) _
-      (follow-statement again again' P bodies chains refl turns R C scalar calling.Flow Flow Ended f.body true placed m ok o D k
-      (finished (declared f.body) (finished params nothing)) no_registers s0 g w (λ flow. closes R C scalar args flow >>= last R C scalar args) gives
+      (follow-statement again again' P bodies chains refl turns R C scalar calling.Flow Flow Ended f.body m ok o D k
+      (finished (declared f.body) (finished params nothing)) no_registers s0 g w (λ flow. closes R C scalar args flow >>= last R C scalar args) gives placed
       (record {
         ready = record { alike = record { function = refl; this = refl; result = refl; depth = refl }; count = omega arith; wide = omega arith; locals = λ i lt. refl };
         low = omega arith;
         result = refl;
-        here = tt;
-        breaks = tt;
-        continues = tt;
+        empty = refl;
+        here = refl;
+        breaks = refl;
+        continues = refl;
         returns = held;
+        own = refl;
+        owned = record {
+          known = λ i q le at. absurd (let z = never-named i q le at in omega (arith, z));
+          apart = λ i j q le le2 at at2. absurd (let z = never-named i q le at in omega (arith, z));
+          stays = λ i q le at. absurd (let z = never-named i q le at in omega (arith, z));
+        };
+        params = omega arith;
+        above_here = tt;
+        above_own = tt;
       })
       room
       (record {
-        breaks = λ t g2 h w2 v. ended-with R C scalar args calling.Breaks (Breaks h) t _ w2 tt tt;
-        continues = λ t g2 h w2 v. ended-with R C scalar args calling.Continues (Continues h) t _ w2 tt tt;
-        returns = λ x t g2 w2 v. ended-with R C scalar args (calling.Returns x) (Returns x) t (with_frame g2 (all_gone (t.frame.scope ++ reverse args) t)) w2 refl (all-returned R C scalar args t g2);
+        breaks = λ t g2 h w2 v owned. ended-with R C scalar args calling.Breaks (Breaks h) t _ w2 tt tt;
+        continues = λ t g2 h w2 v owned. ended-with R C scalar args calling.Continues (Continues h) t _ w2 tt tt;
+        returns = λ x t g2 w2 v owned. ended-with R C scalar args (calling.Returns x) (Returns x) t (with_frame g2 (all_gone (t.frame.scope ++ reverse args) t)) w2 refl (all-returned R C scalar args t g2);
       })
-      (λ t g2 h w2 v ps qs split early held-now low.
-      finished-steps again' H refl calling.Flow Flow Ended (declared f.body) qs (next_local m f.body) (finished params nothing) h gives _ (all_gone ps t) g2 w2
-      (subst (λ xs. Held g2.locals (next_local m f.body) xs qs) (append-nil (declared f.body)) held-now)
-      (subst (λ z. Follows Ended (and_then (closes R C scalar args calling.Falls t w2) (on (last R C scalar args))) (and_then (all again' H (finished params nothing) h (with_frame g2 z) w2) (on gives)))
-      ((scope-ended again again' P bodies chains refl turns R C scalar calling.Flow Flow Ended) ps qs t split)
+      (λ t g2 h w2 v held-now low owned.
+      finished-steps again' H refl calling.Flow Flow Ended (declared f.body) t.frame.scope (next_local m f.body) (finished params nothing) h gives _ t g2 w2
+      (subst (λ xs. Held t g2.locals (next_local m f.body) xs t.frame.scope) (append-nil (declared f.body)) held-now)
       (finished-steps again' H refl calling.Flow Flow Ended params (reverse args) m nothing h gives _ (all_gone t.frame.scope t) g2 w2
-      (held-kept (λ i. slice_get args i) g2.locals m m params (reverse args) held (omega arith) v.below)
-      (ended-with R C scalar args calling.Falls (Falls h) t (with_frame g2 (all_gone (reverse args) (all_gone t.frame.scope t))) w2 tt (all-ended R C scalar args t g2)))))))
+      (held-kept s0 (all_gone t.frame.scope t) (λ i. slice_get args i) g2.locals m m params (reverse args) (later-then s0 t (all_gone t.frame.scope t) v.later (later-gone t.frame.scope t)) held (omega arith) v.below)
+      (ended-with R C scalar args calling.Falls (Falls h) t (with_frame g2 (all_gone (reverse args) (all_gone t.frame.scope t))) w2 tt (all-ended R C scalar args t g2))))))
+    where
+      past : {X : Type 0} (xs : List X) (i : ℕ) → length xs ≤ i → slice_get xs i ≡ None
+      past [] i le = refl
+      past (x ∷ xs) zero le = absurd (omega (arith, le))
+      past (x ∷ xs) (suc i) le = past xs i (omega arith)
+
+      never-named : (i q : ℕ) → length (parameters f.type) ≤ i → slice_get args i ≡ Some q → q < 0
+      never-named i q le at = let none : None ≡ Some q = sym (past args i (omega (arith, many, le))) ∙ at in absurd (cc)
 
   -- a function's body, with what comes round it
   entered-follows : (f : Function) → is_built_function f ≡ true → (args : List ℕ) → length args ≡ length (parameters f.type) → (depth : ℕ) (s : State) (w : World)
@@ -274,7 +277,7 @@ module _ (again : calling.Again) (again' : running.Again) (xs : List Static) (ks
       subst (λ role. Follows Ended (core_body again P role (is_class (result f.type)) f.body args s0 w) (plain_body again' H role (is_class (result f.type)) (sequenced_body [] xs f) t0 w))
       (sym parts.role)
       (subst (λ b. Follows Ended (core_body again P plain_function b f.body args s0 w) (plain_body again' H plain_function b (sequenced_body [] xs f) t0 w)) (sym parts.scalar)
-      (body-follows f parts.scalar parts.statement parts.last args many depth s w))
+      (body-follows f parts.scalar parts.statement parts.arms args many depth s w))
 
 unit-right : {A : Type 0} (x : Ran (Did A)) → and_then x (on gives) ≡ x
 unit-right (Went (Gives a s) w) = refl
@@ -308,35 +311,35 @@ module _ (xs : List Static) (ks : List Setting) (fs : List Function) (set : list
     turns : Turns (runs (of_parts xs ks fs) n) (running.runs Q code_of n) (of_parts xs ks fs)
 
   turn-by : (n : ℕ) (how : LoopForm) (q e : MaybeCore) (body : Core) (o : Open) (D : Beyond) (m k : ℕ) (g : Registers) (s : State) (f : Frame) (w : World) (R C : SourceType)
-      → Follows (Turned D m s f) (and_then (does.does (runs (of_parts xs ks fs) n) (of_parts xs ks fs) (core.loop how q e body) s w) (on gives))
+      → Follows (Turned o.here D m s f) (and_then (does.does (runs (of_parts xs ks fs) n) (of_parts xs ks fs) (core.loop how q e body) s w) (on gives))
       (and_then (all (running.runs Q code_of n) Q (more (loop (turn_code (inside_of (of_parts xs ks fs) R C o) how q e body k) (step_code (inside_of (of_parts xs ks fs) R C o) how q e body k)) nothing) g (with_frame f s) w) (on gives))
-      → Follows (Turned D m s f) (does.does (runs (of_parts xs ks fs) n) (of_parts xs ks fs) (core.loop how q e body) s w)
+      → Follows (Turned o.here D m s f) (does.does (runs (of_parts xs ks fs) n) (of_parts xs ks fs) (core.loop how q e body) s w)
       (running.does (running.runs Q code_of n) Q (loop (turn_code (inside_of (of_parts xs ks fs) R C o) how q e body k) (step_code (inside_of (of_parts xs ks fs) R C o) how q e body k)) g (with_frame f s) w)
   turn-by n how q e body o D m k g s f w R C h =
       let again' = running.runs Q code_of n in
       let the_loop : Plain = loop (turn_code (inside_of (of_parts xs ks fs) R C o) how q e body k) (step_code (inside_of (of_parts xs ks fs) R C o) how q e body k) in
-      subst (λ y. Follows (Turned D m s f) (does.does (runs (of_parts xs ks fs) n) (of_parts xs ks fs) (core.loop how q e body) s w) y)
+      subst (λ y. Follows (Turned o.here D m s f) (does.does (runs (of_parts xs ks fs) n) (of_parts xs ks fs) (core.loop how q e body) s w) y)
       (falls-unit again' Q (running.does again' Q the_loop g (with_frame f s) w))
-      (subst (λ x. Follows (Turned D m s f) x (and_then (all again' Q (more the_loop nothing) g (with_frame f s) w) (on gives)))
+      (subst (λ x. Follows (Turned o.here D m s f) x (and_then (all again' Q (more the_loop nothing) g (with_frame f s) w) (on gives)))
       (unit-right (does.does (runs (of_parts xs ks fs) n) (of_parts xs ks fs) (core.loop how q e body) s w)) h)
 
   turn-ways : (n : ℕ) (b : Both n) (R C : SourceType) (scalar : is_class R ≡ false) (o : Open) (D : Beyond) (m k : ℕ) (s : State) (f : Frame)
-      → Ways (runs (of_parts xs ks fs) n) (running.runs Q code_of n) (of_parts xs ks fs) b.bodies chains-of refl b.turns R C scalar calling.Flow Flow (Turned D m s f) D m s f gives gives
+      → Ways (runs (of_parts xs ks fs) n) (running.runs Q code_of n) (of_parts xs ks fs) b.bodies chains-of refl b.turns R C scalar calling.Flow Flow (Turned o.here D m s f) D m s f gives gives
   turn-ways n b R C scalar o D m k s f = record {
-    breaks = λ t g h w v. record { by = record { value = Breaks h; after = with_frame g (all_gone (t.frame.scope ++ D.breaks) t); run = refl; related = record { plain = g; moved = v; ends = refl } } };
-    continues = λ t g h w v. record { by = record { value = Continues h; after = with_frame g (all_gone (t.frame.scope ++ D.continues) t); run = refl; related = record { plain = g; moved = v; ends = refl } } };
-    returns = λ x t g w v. record { by = record { value = Returns x; after = with_frame g (all_gone (t.frame.scope ++ D.returns) t); run = refl; related = record { plain = g; moved = v; ends = (refl, refl) } } };
+    breaks = λ t g h w v owned. record { by = record { value = Breaks h; after = with_frame g (all_gone (t.frame.scope ++ D.breaks) t); run = refl; related = record { plain = g; moved = v; owned = owned; ends = refl } } };
+    continues = λ t g h w v owned. record { by = record { value = Continues h; after = with_frame g (all_gone (t.frame.scope ++ D.continues) t); run = refl; related = record { plain = g; moved = v; owned = owned; ends = refl } } };
+    returns = λ x t g w v owned. record { by = record { value = Returns x; after = with_frame g (all_gone (t.frame.scope ++ D.returns) t); run = refl; related = record { plain = g; moved = v; owned = owned; ends = (refl, refl) } } };
   }
 
   turn-falls : (o : Open) (D : Beyond) (m k : ℕ) (s : State) (f : Frame) → Stands o D m k s f
-      → (t : State) (g : Frame) (h : Registers) (w : World) → Moved m s f t g → Held g.locals m o.here t.frame.scope
-      → Follows (Turned D m s f) (Went (Gives calling.Falls t) w) (Went (Gives (Falls h) (with_frame g t)) w)
-  turn-falls o D m k s f st t g h w v held = record {
+      → (t : State) (g : Frame) (h : Registers) (w : World) → Moved m s f t g → Held t g.locals m o.here t.frame.scope → Owned D.params D.own t
+      → Follows (Turned o.here D m s f) (Went (Gives calling.Falls t) w) (Went (Gives (Falls h) (with_frame g t)) w)
+  turn-falls o D m k s f st t g h w v held owned = record {
     by = record {
       value = Falls h;
       after = with_frame g t;
       run = refl;
-      related = record { plain = g; moved = v; ends = (sym (held-same f.locals g.locals m o.here s.frame.scope t.frame.scope st.here held v.below), refl) };
+      related = record { plain = g; moved = v; owned = owned; ends = (held, refl) };
     };
   }
 
@@ -344,23 +347,20 @@ module _ (xs : List Static) (ks : List Setting) (fs : List Function) (set : list
   rests : (n : ℕ) → Rests (runs (of_parts xs ks fs) n) (of_parts xs ks fs)
   rests n = rests-at (of_parts xs ks fs) refl (λ name f found. let parts = built-parts f (found-built name fs f found ok) in (parts.role, parts.statement)) n
 
-  next-follows : (n : ℕ) → Both n → (R C : SourceType) → is_class R ≡ false → (how : LoopForm) (q e : MaybeCore) (body : Core) (m : ℕ) → is_statement m (core.loop how q e body) ≡ true → declares_last true body ≡ true
-      → (o : Open) (D : Beyond) (k : ℕ) (g : Registers) (s : State) (f : Frame) (w : World)
+  next-follows : (n : ℕ) → Both n → (R C : SourceType) → is_class R ≡ false → (how : LoopForm) (q e : MaybeCore) (body : Core) (m : ℕ) → is_statement m (core.loop how q e body) ≡ true
+      → (o : Open) (D : Beyond) (k : ℕ) (g : Registers) (s : State) (f : Frame) (w : World) → arms_fit s.frame.count body ≡ true
       → Stands o D m k s f → k + width (core.loop how q e body) ≤ f.count
-      → Follows (Turned D m s f) (runs (of_parts xs ks fs) (suc n) (calling.turn (core.loop how q e body)) s w)
+      → Follows (Turned o.here D m s f) (runs (of_parts xs ks fs) (suc n) (calling.turn (core.loop how q e body)) s w)
       (running.runs Q code_of (suc n) (running.turn (turn_code (inside_of (of_parts xs ks fs) R C o) how q e body k) (step_code (inside_of (of_parts xs ks fs) R C o) how q e body k) g) (with_frame f s) w)
-  next-follows n b R C scalar form.While q e body m is-ok placed o D k g s f w st room = turn-by n form.While q e body o D m k g s f w R C
-      (follow-statement (runs (of_parts xs ks fs) n) (running.runs Q code_of n) (of_parts xs ks fs) b.bodies chains-of refl b.turns R C scalar calling.Flow Flow (Turned D m s f)
-      (core.loop form.While q e body) false placed m is-ok o D k nothing g s f w gives gives st room (turn-ways n b R C scalar o D m k s f) (fallen-at (runs (of_parts xs ks fs) n) (running.runs Q code_of n) (of_parts xs ks fs) b.bodies chains-of refl b.turns R C scalar calling.Flow Flow (Turned D m s f)
-      m o.here m gives gives nothing s f (λ t g h w v held low. turn-falls o D m k s f st t g h w v held)))
-  next-follows n b R C scalar form.For q e body m is-ok placed o D k g s f w st room = turn-by n form.For q e body o D m k g s f w R C
-      (follow-statement (runs (of_parts xs ks fs) n) (running.runs Q code_of n) (of_parts xs ks fs) b.bodies chains-of refl b.turns R C scalar calling.Flow Flow (Turned D m s f)
-      (core.loop form.For q e body) false placed m is-ok o D k nothing g s f w gives gives st room (turn-ways n b R C scalar o D m k s f) (fallen-at (runs (of_parts xs ks fs) n) (running.runs Q code_of n) (of_parts xs ks fs) b.bodies chains-of refl b.turns R C scalar calling.Flow Flow (Turned D m s f)
-      m o.here m gives gives nothing s f (λ t g h w v held low. turn-falls o D m k s f st t g h w v held)))
-  next-follows n b R C scalar form.Do q e body m is-ok placed o D k g s f w st room = turn-by n form.Do q e body o D m k g s f w R C
-      (follow-statement (runs (of_parts xs ks fs) n) (running.runs Q code_of n) (of_parts xs ks fs) b.bodies chains-of refl b.turns R C scalar calling.Flow Flow (Turned D m s f)
-      (core.loop form.Do q e body) false placed m is-ok o D k nothing g s f w gives gives st room (turn-ways n b R C scalar o D m k s f) (fallen-at (runs (of_parts xs ks fs) n) (running.runs Q code_of n) (of_parts xs ks fs) b.bodies chains-of refl b.turns R C scalar calling.Flow Flow (Turned D m s f)
-      m o.here m gives gives nothing s f (λ t g h w v held low. turn-falls o D m k s f st t g h w v held)))
+  next-follows n b R C scalar form.While q e body m is-ok o D k g s f w placed st room = turn-by n form.While q e body o D m k g s f w R C
+      (follow-statement (runs (of_parts xs ks fs) n) (running.runs Q code_of n) (of_parts xs ks fs) b.bodies chains-of refl b.turns R C scalar calling.Flow Flow (Turned o.here D m s f)
+      (core.loop form.While q e body) m is-ok o D k nothing g s f w gives gives placed st room (turn-ways n b R C scalar o D m k s f) (λ t g h w v held low owned. turn-falls o D m k s f st t g h w v held owned))
+  next-follows n b R C scalar form.For q e body m is-ok o D k g s f w placed st room = turn-by n form.For q e body o D m k g s f w R C
+      (follow-statement (runs (of_parts xs ks fs) n) (running.runs Q code_of n) (of_parts xs ks fs) b.bodies chains-of refl b.turns R C scalar calling.Flow Flow (Turned o.here D m s f)
+      (core.loop form.For q e body) m is-ok o D k nothing g s f w gives gives placed st room (turn-ways n b R C scalar o D m k s f) (λ t g h w v held low owned. turn-falls o D m k s f st t g h w v held owned))
+  next-follows n b R C scalar form.Do q e body m is-ok o D k g s f w placed st room = turn-by n form.Do q e body o D m k g s f w R C
+      (follow-statement (runs (of_parts xs ks fs) n) (running.runs Q code_of n) (of_parts xs ks fs) b.bodies chains-of refl b.turns R C scalar calling.Flow Flow (Turned o.here D m s f)
+      (core.loop form.Do q e body) m is-ok o D k nothing g s f w gives gives placed st room (turn-ways n b R C scalar o D m k s f) (λ t g h w v held low owned. turn-falls o D m k s f st t g h w v held owned))
 
   next-bodies : (n : ℕ) → Both n → Bodies (runs (of_parts xs ks fs) (suc n)) (running.runs Q code_of (suc n)) (of_parts xs ks fs)
   next-bodies n b name f found args many depth s w =
@@ -374,7 +374,7 @@ module _ (xs : List Static) (ks : List Setting) (fs : List Function) (set : list
       (entered-follows again again' xs ks fs b.bodies chains-of b.turns f (found-built name fs f found ok) args many depth s w)
 
   both-at : (n : ℕ) → Both n
-  both-at zero = record { bodies = λ name f found args many depth s w. record { by = refl }; turns = record { follow = λ R C scalar how q e body m is-ok placed o D k g s f w st room. record { by = refl }; rests = rests zero } }
+  both-at zero = record { bodies = λ name f found args many depth s w. record { by = refl }; turns = record { follow = λ R C scalar how q e body m is-ok o D k g s f w placed st room. record { by = refl }; rests = rests zero } }
   both-at (suc n) = record { bodies = next-bodies n (both-at n); turns = record { follow = next-follows n (both-at n); rests = rests (suc n) } }
 
   -- ---- the whole run

@@ -1,6 +1,6 @@
 -- The cores that are built so far: functions over numbers and pointers, with locals, references, temporaries, literals,
 -- calls and all statements, lists that are the initialisers of arrays, and static objects with constant initialisers; no class.
-use Rattle.std.specs.Prelude.{ℕ, suc, Bool, true, false, ◌&&◌, ◌||◌, not, nat_le, nat_lt, nat_eq, List, [], ◌∷◌, length, bytes_eq, codes}
+use Rattle.std.specs.Prelude.{ℕ, suc, ◌+◌, Bool, true, false, ◌&&◌, ◌||◌, not, nat_le, nat_lt, nat_eq, List, [], ◌∷◌, length, bytes_eq, codes}
 use Rattle.std.specs.Char.{is_ascii_digit}
 use Rattle.std.specs.List.{list_all, starts_with}
 use Rattle.cf_core.specs.Types.{Name, SourceType, array, const, takes, gives, result, is_class, parameters, plain, element}
@@ -9,7 +9,8 @@ use Rattle.cf_core.specs.Core.{Core, Cores, MaybeCore, no_temporary, local_tempo
 use Rattle.cf_core.specs.Calls.{Program, Setting}
 use Rattle.cf_core.specs.Places.{is_reference}
 use Rattle.cf_core.specs.Joined.{is_nothing}
-use Rattle.cf_core.specs.Valid.{is_label}
+use Rattle.cf_core.specs.Valid.{is_label, has_label}
+use Rattle.cf_sequence.specs.Made.{declared}
 use Rattle.cf_sequence.specs.Statements.{type_of_static}
 
 -- a function type: its parameters, and then its result
@@ -111,22 +112,31 @@ abbrev mutual
   pub next_local : ℕ → Core → ℕ
   next_local m (core.declare i t e) = behind_declared i e
   next_local m (core.sequence es) = next_locals m es
+  next_local m (core.branch c a b) = next_local_or (next_local m a) b
   next_local m s = m
+
+  pub next_local_or : ℕ → MaybeCore → ℕ
+  next_local_or m absent = m
+  next_local_or m (given s) = next_local m s
 
   pub next_locals : ℕ → Cores → ℕ
   next_locals m none = m
   next_locals m (core.more s rest) = next_locals (next_local m s) rest
 
--- whether a statement declares locals in the scope at hand
-abbrev mutual
-  pub declares_here : Core → Bool
-  declares_here (core.declare i t e) = true
-  declares_here (core.sequence es) = any_declares es
-  declares_here s = false
+abbrev pub is_none : {A : Type 0} → List A → Bool
+is_none [] = true
+is_none (x ∷ xs) = false
 
-  pub any_declares : Cores → Bool
-  any_declares none = false
-  any_declares (core.more s rest) = declares_here s || any_declares rest
+-- whether a statement declares locals of the scope at hand in an arm of an `if` (6.4.1)
+abbrev mutual
+  pub arms_declare : Core → Bool
+  arms_declare (core.sequence es) = any_arms_declare es
+  arms_declare (core.branch c a b) = not (is_none (declared (core.branch c a b)))
+  arms_declare s = false
+
+  pub any_arms_declare : Cores → Bool
+  any_arms_declare none = false
+  any_arms_declare (core.more s rest) = arms_declare s || any_arms_declare rest
 
 -- A statement where the locals below m are those of the open scopes: each that it declares comes behind them.
 abbrev mutual
@@ -135,7 +145,7 @@ abbrev mutual
   is_statement m (core.block es) = are_statements m es
   is_statement m (core.sequence es) = are_statements m es
   is_statement m (core.declare i t e) = nat_le m i && (is_element t e || is_held i e)
-  is_statement m (core.branch c a b) = is_value c && (is_statement m a && is_statement_or m b)
+  is_statement m (core.branch c a b) = is_value c && (is_statement m a && is_statement_or (next_local m a) b)
   is_statement m (core.loop _ c e s) = is_condition c && (is_condition e && is_statement m s)
   is_statement m (core.switch e es) = is_value e && are_cases m es
   is_statement m core.leave = true
@@ -157,30 +167,28 @@ abbrev mutual
   are_statements m none = true
   are_statements m (core.more s rest) = is_statement m s && are_statements (next_local m s) rest
 
--- What is declared as the statement of an `if` by itself ends with the scope around it (6.5.3). An arm ends what it declares, so that the `if` has to be the last
--- statement of its scope; `last` tells whether a statement is.
+-- What is declared as the statement of an `if` by itself is there in its arm alone, and ends with the scope around it (6.5.3). Such locals are among so many of the
+-- function, also where the arm is not taken; and in a switch's own block no label stands behind, which would pass them.
 abbrev mutual
-  pub declares_last : Bool → Core → Bool
-  declares_last last (core.block es) = all_declare_last true es
-  declares_last last (core.sequence es) = all_declare_last last es
-  declares_last last (core.branch c a b) = ((last || not (declares_here a)) && declares_last last a) && or_declares_last last b
-  declares_last last (core.loop _ c e s) = declares_last true s
-  declares_last last (core.switch e es) = none_declares es
-  declares_last last s = true
+  pub arms_fit : ℕ → Core → Bool
+  arms_fit n (core.block es) = all_arms_fit n es
+  arms_fit n (core.sequence es) = all_arms_fit n es
+  arms_fit n (core.branch c a b) = nat_le (next_local 0 (core.branch c a b)) n && (arms_fit n a && or_arms_fit n b)
+  arms_fit n (core.loop _ c e s) = arms_fit n s
+  arms_fit n (core.switch e es) = none_passed es && all_arms_fit n es
+  arms_fit n s = true
 
-  pub or_declares_last : Bool → MaybeCore → Bool
-  or_declares_last last absent = true
-  or_declares_last last (given s) = (last || not (declares_here s)) && declares_last last s
+  pub or_arms_fit : ℕ → MaybeCore → Bool
+  or_arms_fit n absent = true
+  or_arms_fit n (given s) = arms_fit n s
 
-  pub all_declare_last : Bool → Cores → Bool
-  all_declare_last last none = true
-  all_declare_last last (core.more s none) = declares_last last s
-  all_declare_last last (core.more s (core.more e es)) = declares_last false s && all_declare_last last (core.more e es)
+  pub all_arms_fit : ℕ → Cores → Bool
+  all_arms_fit n none = true
+  all_arms_fit n (core.more s es) = arms_fit n s && all_arms_fit n es
 
-  -- of the statements of a switch none counts as the last
-  pub none_declares : Cores → Bool
-  none_declares none = true
-  none_declares (core.more s es) = declares_last false s && none_declares es
+  pub none_passed : Cores → Bool
+  none_passed none = true
+  none_passed (core.more s es) = not (arms_declare s && has_label es) && none_passed es
 
 -- what is known before any function is entered: a number, or the place or the address of an object or a function (8.4)
 abbrev pub is_constant_value : Core → Bool
@@ -232,17 +240,13 @@ is_constant_set t e = is_bound e || (not (is_reference t) && is_constant_element
 abbrev pub is_constant_start : SourceType → Core → Bool
 is_constant_start t e = is_nothing e || is_constant_set t e
 
-abbrev pub is_none : {A : Type 0} → List A → Bool
-is_none [] = true
-is_none (x ∷ xs) = false
-
 -- A function over numbers and pointers.
 abbrev pub is_plain_role : Role → Bool
 is_plain_role plain_function = true
 is_plain_role role = false
 
 abbrev pub is_body : Function → Bool
-is_body f = not (is_class (result f.type)) && (is_statement (length (parameters f.type)) f.body && declares_last true f.body)
+is_body f = not (is_class (result f.type)) && (is_statement (length (parameters f.type)) f.body && arms_fit (length (parameters f.type) + length f.locals) f.body)
 
 -- `main` takes nothing
 abbrev pub is_built_function : Function → Bool

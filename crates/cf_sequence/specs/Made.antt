@@ -2,7 +2,7 @@
 use Rattle.std.specs.Prelude.{ℕ, suc, ◌+◌, length, Bool, true, List, [], ◌∷◌, ◌++◌}
 use Rattle.std.specs.List.{flat_map}
 use Rattle.cf_core.specs.Types.{SourceType, parameters}
-use Rattle.cf_core.specs.Core.{Core, Cores, MaybeCore, local_temporary, none, more, absent, given, member, read, address, dereference, decay, index, convert, up, down, from_void, to_member, through, operate, unary, logical_not, logical_and, logical_or, pointer_operate, conditional, comma, store, update, step, assign, temporary, call, virtual_call, pointer_call, new, new_array, delete, delete_array, build, copy, bind, declare, sequence}
+use Rattle.cf_core.specs.Core.{Core, Cores, MaybeCore, local_temporary, none, more, absent, given, member, read, address, dereference, decay, index, convert, up, down, from_void, to_member, through, operate, unary, logical_not, logical_and, logical_or, pointer_operate, conditional, comma, store, update, step, assign, temporary, call, virtual_call, pointer_call, new, new_array, delete, delete_array, build, copy, bind, declare, sequence, branch}
 use Rattle.cf_core.specs.Nodes.{nodes}
 
 -- A local of a function, by its number and with its type.
@@ -113,7 +113,12 @@ abbrev mutual
   pub declared : Core → List Local
   declared (declare i t e) = record { number = i; type = t } ∷ held_by e
   declared (sequence es) = declared_all es
+  declared (branch c a b) = declared_maybe b ++ declared a
   declared s = []
+
+  pub declared_maybe : MaybeCore → List Local
+  declared_maybe absent = []
+  declared_maybe (given s) = declared s
 
   pub declared_all : Cores → List Local
   declared_all none = []

@@ -115,8 +115,8 @@ abbrev pub looping : List Class → MaybeCore → MaybeCore → ℕ → Plains �
 looping classes c e k body rest = more (loop (held classes c k body) (stepped classes e (k + width_maybe c))) rest
 
 abbrev mutual
-  -- A statement, and then the rest; the locals that it adds are numbered from k. An arm of an `if` ends what it declares in the scope around the `if`, which is
-  -- the last statement there (Built).
+  -- A statement, and then the rest; the locals that it adds are numbered from k. What an arm of an `if` declares by itself ends with the scope around it, so that behind
+  -- the `if` the locals of both arms count as declared there; those that have no object are finished for nothing.
   pub statement : Inside → Core → ℕ → Plains → Plains
   statement f (core.full e) k rest = whole e 0 k (λ x n rest. value f.classes x e None n k rest) (λ n. rest)
   statement f (core.block es) k rest = statements (opened f) es k (finished (declared_all es) rest)
@@ -127,7 +127,7 @@ abbrev mutual
       (more (branch 0 nothing (initialised f.classes (type_of_static f.statics name) name e k nothing)) rest)
   statement f (core.branch c a b) k rest =
       condition f.classes c k (λ n.
-      more (branch n (statement f a (k + width c) (finished (declared a) nothing)) (statement_or f b (k + width c + width a) nothing)) rest)
+      more (branch n (statement f a (k + width c) nothing) (statement_or f b (k + width c + width a) nothing)) rest)
   statement f (core.loop form.While c e s) k rest =
       looping f.classes c e k (statement (in_loop f) s (k + width_maybe c + width_maybe e) (finished (declared s) nothing)) rest
   statement f (core.loop form.For c e s) k rest =
@@ -148,7 +148,7 @@ abbrev mutual
 
   pub statement_or : Inside → MaybeCore → ℕ → Plains → Plains
   statement_or f absent k rest = rest
-  statement_or f (given s) k rest = statement f s k (finished (declared s) rest)
+  statement_or f (given s) k rest = statement f s k rest
 
   pub statements : Inside → Cores → ℕ → Plains → Plains
   statements f none k rest = rest

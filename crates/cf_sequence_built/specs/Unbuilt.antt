@@ -1,5 +1,5 @@
 -- The place of the first construct of a core that is not built so far.
-use Rattle.std.specs.Prelude.{ℕ, Bool, true, false, ◌&&◌, ◌||◌, not, ◌==◌, nat_le, nat_lt, nat_eq, if◌then◌else◌, List, [], ◌∷◌, length, codes, bytes_eq, suc, Option, Some, None, find}
+use Rattle.std.specs.Prelude.{ℕ, ◌+◌, Bool, true, false, ◌&&◌, ◌||◌, not, ◌==◌, nat_le, nat_lt, nat_eq, if◌then◌else◌, List, [], ◌∷◌, length, codes, bytes_eq, suc, Option, Some, None, find}
 use Rattle.std.specs.List.{starts_with, list_all}
 use Rattle.std.specs.Char.{is_ascii_digit}
 use Rattle.std.specs.Option.{option_or}
@@ -33,9 +33,9 @@ pub record Test : Type 0 where
   pub is_filling : Bool  -- whether it fills its object by itself, as an initialiser
   pub temporary : Option Temporary  -- as an initialiser
   pub list : Option (SourceType → Option ℕ)  -- as a list that initialises an object of this type, if it is one
-  pub declares : Bool  -- whether it declares locals in the scope at hand
-  pub arms : Bool  -- whether it has an `if` in the scope at hand of which the statement declares
-  pub crowd : Option ℕ  -- as a statement: that of the first scope in it where something follows such an `if`
+  pub declares : Bool  -- whether it declares locals in the scope at hand, also in an arm of an `if`
+  pub arms : Bool  -- whether it has an `if` in the scope at hand of which an arm declares
+  pub unfit : ℕ → Option ℕ  -- as a statement of a function of so many locals: that of the first `if` whose arms declare others, or of a switch that passes such an `if`
   pub is_label : Bool
 
 -- an expression statement
@@ -146,9 +146,14 @@ is_function_type t = false
 abbrev pub place_in : Core-F Test Test → ℕ
 place_in x = place_step (map-Core _ _ _ _ (λ (t : Test). 0) (λ (t : Test). tt) x)
 
+abbrev pub next_or : ℕ → Option Test → ℕ
+next_or m None = m
+next_or m (Some s) = s.next m
+
 abbrev pub next_step : Core-F Test Test → ℕ → ℕ
 next_step (Core-F.Declare at i t e) m = behind i e
 next_step (Core-F.Sequence at ss) m = next_of_all m ss
+next_step (Core-F.If at c a b) m = next_or (a.next m) b
 next_step x m = m
 
 abbrev pub blank_step : Core-F Test Test → Bool
@@ -165,50 +170,48 @@ abbrev pub any_declares : List Test → Bool
 any_declares [] = false
 any_declares (s ∷ ss) = s.declares || any_declares ss
 
+abbrev pub or_declares : Option Test → Bool
+or_declares None = false
+or_declares (Some s) = s.declares
+
 abbrev pub declares_step : Core-F Test Test → Bool
 declares_step (Core-F.Declare at i t e) = true
 declares_step (Core-F.Sequence at ss) = any_declares ss
+declares_step (Core-F.If at c a b) = a.declares || or_declares b
 declares_step x = false
 
--- What is declared as the statement of an `if` by itself ends with the scope around it; the `if` ends it, so that nothing may follow there (6.5.3).
-
-abbrev pub arm : Test → Bool
-arm s = s.declares || s.arms
+-- What is declared as the statement of an `if` by itself is there in its arm alone, and ends with the scope around it (6.5.3).
 
 abbrev pub any_arms : List Test → Bool
 any_arms [] = false
 any_arms (s ∷ ss) = s.arms || any_arms ss
 
-abbrev pub or_arms : Option Test → Bool
-or_arms None = false
-or_arms (Some s) = arm s
-
 abbrev pub arms_step : Core-F Test Test → Bool
 arms_step (Core-F.Sequence at ss) = any_arms ss
-arms_step (Core-F.If at c a b) = arm a || or_arms b
+arms_step (Core-F.If at c a b) = a.declares || or_declares b
 arms_step x = false
 
--- of statements in order, before which there is such an `if` or not
-abbrev pub crowded : ℕ → Bool → List Test → Option ℕ
-crowded at b [] = None
-crowded at b (s ∷ ss) = if b then Some at else option_or s.crowd (crowded at s.arms ss)
+-- of the statements of the switch at this place, before which there is such an `if` or not: no label stands behind one
+abbrev pub passed : ℕ → Bool → List Test → Option ℕ
+passed at b [] = None
+passed at b (s ∷ ss) = if b && s.is_label then Some at else passed at (b || s.arms) ss
 
--- of those of a switch, where nothing counts as the last
-abbrev pub crowded_cases : ℕ → List Test → Option ℕ
-crowded_cases at [] = None
-crowded_cases at (s ∷ ss) = if s.arms then Some at else option_or s.crowd (crowded_cases at ss)
+abbrev pub each_unfit : ℕ → List Test → Option ℕ
+each_unfit n [] = None
+each_unfit n (s ∷ ss) = option_or (s.unfit n) (each_unfit n ss)
 
-abbrev pub or_crowd : Option Test → Option ℕ
-or_crowd None = None
-or_crowd (Some s) = s.crowd
+abbrev pub or_unfit : ℕ → Option Test → Option ℕ
+or_unfit n None = None
+or_unfit n (Some s) = s.unfit n
 
-abbrev pub crowd_step : Core-F Test Test → Option ℕ
-crowd_step (Core-F.Block at ss) = crowded at false ss
-crowd_step (Core-F.Sequence at ss) = crowded at false ss
-crowd_step (Core-F.If at c a b) = option_or a.crowd (or_crowd b)
-crowd_step (Core-F.Loop at how c e s) = s.crowd
-crowd_step (Core-F.Switch at e ss) = crowded_cases at ss
-crowd_step x = None
+-- The locals that arms declare are among so many of the function, also where the arm is not taken.
+abbrev pub unfit_step : Core-F Test Test → ℕ → Option ℕ
+unfit_step (Core-F.Block at ss) n = each_unfit n ss
+unfit_step (Core-F.Sequence at ss) n = each_unfit n ss
+unfit_step (Core-F.If at c a b) n = if nat_le (next_or (a.next 0) b) n then option_or (a.unfit n) (or_unfit n b) else Some at
+unfit_step (Core-F.Loop at how c e s) n = s.unfit n
+unfit_step (Core-F.Switch at e ss) n = option_or (passed at false ss) (each_unfit n ss)
+unfit_step x n = None
 
 abbrev pub label_step : Core-F Test Test → Bool
 label_step (Core-F.Case at z) = true
@@ -259,7 +262,7 @@ module _ (tables : Tables) where
   statement_step (Core-F.Block at ss) m = each_statement m ss
   statement_step (Core-F.Sequence at ss) m = each_statement m ss
   statement_step (Core-F.Declare at i t e) m = if nat_le m i then local at i (type_of tables t) e else Some at
-  statement_step (Core-F.If at c a b) m = option_or c.value (option_or (a.statement m) (statement_or m b))
+  statement_step (Core-F.If at c a b) m = option_or c.value (option_or (a.statement m) (statement_or (a.next m) b))
   statement_step (Core-F.Loop at how c e s) m = option_or (given c) (option_or (given e) (s.statement m))
   statement_step (Core-F.Switch at e ss) m = option_or e.value (each_case m ss)
   statement_step (Core-F.Break at) m = None
@@ -286,7 +289,7 @@ module _ (tables : Tables) where
     list = list_step x;
     declares = declares_step x;
     arms = arms_step x;
-    crowd = crowd_step x;
+    unfit = unfit_step x;
     is_label = label_step x;
   }
 
@@ -309,7 +312,7 @@ is_usual tables f =
     is_plain f.role && ((not (bytes_eq f.name (codes "__main")) || takes_nothing f) && not (is_class (type_of tables f.result)))
 
 abbrev pub in_body : Tables → CoreFn → Option ℕ
-in_body tables f = option_or ((test tables f.body).statement (length f.params)) (test tables f.body).crowd
+in_body tables f = option_or ((test tables f.body).statement (length f.params)) ((test tables f.body).unfit (length f.params + length f.locals))
 
 abbrev pub in_function : Tables → CoreFn → Option ℕ
 in_function tables f = if is_usual tables f then in_body tables f else Some (place f.body)

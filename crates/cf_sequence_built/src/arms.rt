@@ -1,4 +1,4 @@
-//! What is declared as the statement of an `if` by itself: the `if` is to be the last statement of its scope (6.5.3).
+//! What is declared as the statement of an `if` by itself: it is there in its arm alone, and ends with the scope around it (6.5.3).
 
 ghost use Rattle.std.specs.Prelude.{◌≡◌, false, map};
 ghost use Rattle.std.specs.Option.{option_map};
@@ -6,10 +6,11 @@ ghost use Rattle.cf_core.specs.FromUnit.{tables_of};
 ghost use Rattle.cf_sequence_built.specs.Unbuilt as spec;
 ghost use Rattle.cf_sequence_built.specs.Unbuilt.{test};
 
+use crate::statements::{is_label, next, next_or};
 use cf_base::Boxed;
 use cf_core::{Core, CoreUnit};
 
-/// Whether a statement declares locals in the scope at hand.
+/// Whether a statement declares locals in the scope at hand, also in an arm of an `if`.
 #[cycle(declares)]
 fn declares(unit: &CoreUnit, s: &Core) -> bool
     ensures { result ≡ (test (tables_of unit.now) s.now).declares }
@@ -17,6 +18,7 @@ fn declares(unit: &CoreUnit, s: &Core) -> bool
     match s {
         Core::Declare { .. } => true,
         Core::Sequence { statements, .. } => any_declares(unit, statements.as_slice()),
+        Core::If { yes, no, .. } => declares(unit, yes.get()) || or_declares(unit, no),
         _ => false,
     }
 }
@@ -34,14 +36,25 @@ fn any_declares(unit: &CoreUnit, all: &[Core]) -> bool
     false
 }
 
-/// Whether a statement has an `if` in the scope at hand of which the statement declares.
+/// Whether the statement behind `else` does, if there is one.
+#[cycle(declares)]
+fn or_declares(unit: &CoreUnit, s: &Option<Boxed<Core>>) -> bool
+    ensures { result ≡ spec.or_declares (option_map (test (tables_of unit.now)) s.now) }
+{
+    match s {
+        None => false,
+        Some(s) => declares(unit, s.get()),
+    }
+}
+
+/// Whether a statement has an `if` in the scope at hand of which an arm declares.
 #[cycle(arms)]
 fn arms(unit: &CoreUnit, s: &Core) -> bool
     ensures { result ≡ (test (tables_of unit.now) s.now).arms }
 {
     match s {
         Core::Sequence { statements, .. } => any_arms(unit, statements.as_slice()),
-        Core::If { yes, no, .. } => arm(unit, yes.get()) || or_arms(unit, no),
+        Core::If { yes, no, .. } => declares(unit, yes.get()) || or_declares(unit, no),
         _ => false,
     }
 }
@@ -59,75 +72,56 @@ fn any_arms(unit: &CoreUnit, all: &[Core]) -> bool
     false
 }
 
-/// Whether the statement of an `if` declares, by itself or as that of another `if`.
-#[cycle(arms)]
-fn arm(unit: &CoreUnit, s: &Core) -> bool
-    ensures { result ≡ spec.arm (test (tables_of unit.now) s.now) }
+/// The switch at this place, where a label of it stands behind such an `if`.
+fn passed(unit: &CoreUnit, at: u32, all: &[Core]) -> Option<u32>
+    ensures { result ≡ spec.passed at false (map (test (tables_of unit.now)) all.now) }
 {
-    declares(unit, s) || arms(unit, s)
-}
-
-/// Whether the one behind `else` does, if there is one.
-#[cycle(arms)]
-fn or_arms(unit: &CoreUnit, s: &Option<Boxed<Core>>) -> bool
-    ensures { result ≡ spec.or_arms (option_map (test (tables_of unit.now)) s.now) }
-{
-    match s {
-        None => false,
-        Some(s) => arm(unit, s.get()),
-    }
-}
-
-/// The place of the first scope in a statement where something follows an `if` of which the statement declares.
-#[cycle(crowds)]
-pub fn crowd(unit: &CoreUnit, s: &Core) -> Option<u32>
-    ensures { result ≡ (test (tables_of unit.now) s.now).crowd }
-{
-    match s {
-        Core::Block {
-            at,
-            statements: all,
-        }
-        | Core::Sequence {
-            at,
-            statements: all,
-        } => { crowded(unit, *at, all.as_slice()) }
-        Core::If { yes, no, .. } => crowd(unit, yes.get()).or(or_crowd(unit, no)),
-        Core::Loop { body, .. } => crowd(unit, body.get()),
-        Core::Switch { at, body, .. } => crowded_cases(unit, *at, body.as_slice()),
-        _ => None,
-    }
-}
-
-/// The same of statements in order, of what stands at this place.
-#[cycle(crowds)]
-fn crowded(unit: &CoreUnit, at: u32, all: &[Core]) -> Option<u32>
-    ensures { result ≡ spec.crowded at false (map (test (tables_of unit.now)) all.now) }
-{
-    let mut follows = false;
+    let mut behind = false;
     for s in all {
-        if follows {
+        if behind && is_label(s) {
             return Some(at);
         }
-        let found = crowd(unit, s);
-        if found.is_some() {
-            return found;
-        }
-        follows = arms(unit, s);
+        behind = behind || arms(unit, s);
     }
     None
 }
 
-/// The same of the labels and statements of a switch, where nothing counts as the last.
-#[cycle(crowds)]
-fn crowded_cases(unit: &CoreUnit, at: u32, all: &[Core]) -> Option<u32>
-    ensures { result ≡ spec.crowded_cases at (map (test (tables_of unit.now)) all.now) }
+/// The place of the first `if` in a statement whose arms declare locals that are not among so many, or of a switch of which a label stands behind an `if` that declares.
+#[cycle(unfits)]
+pub fn unfit(unit: &CoreUnit, count: u64, s: &Core) -> Option<u32>
+    ensures { result ≡ (test (tables_of unit.now) s.now).unfit count }
+{
+    match s {
+        Core::Block {
+            statements: all,
+            ..
+        }
+        | Core::Sequence {
+            statements: all,
+            ..
+        } => { each_unfit(unit, count, all.as_slice()) }
+        Core::If { at, yes, no, .. } => {
+            if next_or(next(0, yes.get()), no) <= count {
+                unfit(unit, count, yes.get()).or(or_unfit(unit, count, no))
+            } else {
+                Some(*at)
+            }
+        }
+        Core::Loop { body, .. } => unfit(unit, count, body.get()),
+        Core::Switch { at, body, .. } => {
+            passed(unit, *at, body.as_slice()).or(each_unfit(unit, count, body.as_slice()))
+        }
+        _ => None,
+    }
+}
+
+/// The same of statements in order.
+#[cycle(unfits)]
+fn each_unfit(unit: &CoreUnit, count: u64, all: &[Core]) -> Option<u32>
+    ensures { result ≡ spec.each_unfit count (map (test (tables_of unit.now)) all.now) }
 {
     for s in all {
-        if arms(unit, s) {
-            return Some(at);
-        }
-        let found = crowd(unit, s);
+        let found = unfit(unit, count, s);
         if found.is_some() {
             return found;
         }
@@ -136,12 +130,12 @@ fn crowded_cases(unit: &CoreUnit, at: u32, all: &[Core]) -> Option<u32>
 }
 
 /// The same of the statement behind `else`, if there is one.
-#[cycle(crowds)]
-fn or_crowd(unit: &CoreUnit, s: &Option<Boxed<Core>>) -> Option<u32>
-    ensures { result ≡ spec.or_crowd (option_map (test (tables_of unit.now)) s.now) }
+#[cycle(unfits)]
+fn or_unfit(unit: &CoreUnit, count: u64, s: &Option<Boxed<Core>>) -> Option<u32>
+    ensures { result ≡ spec.or_unfit count (option_map (test (tables_of unit.now)) s.now) }
 {
     match s {
         None => None,
-        Some(s) => crowd(unit, s.get()),
+        Some(s) => unfit(unit, count, s.get()),
     }
 }

@@ -6,7 +6,7 @@ ghost use Rattle.cf_core.specs.FromUnit.{tables_of};
 ghost use Rattle.cf_core.specs.Numbers.{function_known, static_known};
 ghost use Rattle.cf_sequence_built.specs.Unbuilt as spec;
 
-use crate::arms::crowd;
+use crate::arms::unfit;
 use crate::constants::sets_object;
 use crate::statements::{is_blank, statement};
 use crate::types::is_of_class;
@@ -28,7 +28,8 @@ fn in_function(unit: &CoreUnit, f: &CoreFn) -> Option<u32>
     ensures { result ≡ spec.in_function (tables_of unit.now) f.now }
 {
     if is_usual(unit, f) {
-        statement(unit, f.params.len() as u64, &f.body).or(crowd(unit, &f.body))
+        let count = f.params.as_slice().len() as u64 + f.locals.as_slice().len() as u64;
+        statement(unit, f.params.len() as u64, &f.body).or(unfit(unit, count, &f.body))
     } else {
         Some(f.body.at())
     }

@@ -149,7 +149,7 @@ pub fn is_filling(e: &Core) -> bool
 }
 
 /// Whether it is a label of a switch.
-fn is_label(s: &Core) -> bool
+pub fn is_label(s: &Core) -> bool
     ensures { (tables : Tables) → result ≡ (test tables s.now).is_label }
 {
     matches!(s, Core::Case { .. } | Core::Default { .. })
@@ -157,7 +157,7 @@ fn is_label(s: &Core) -> bool
 
 /// The number behind that of each local that a statement declares in the scope at hand.
 #[cycle(nexts)]
-fn next(below: u64, s: &Core) -> u64
+pub fn next(below: u64, s: &Core) -> u64
     ensures { (tables : Tables) → result ≡ (test tables s.now).next below }
 {
     match s {
@@ -167,7 +167,19 @@ fn next(below: u64, s: &Core) -> u64
             ..
         } => behind(*number, e.get()),
         Core::Sequence { statements, .. } => next_of_all(below, statements.as_slice()),
+        Core::If { yes, no, .. } => next_or(next(below, yes.get()), no),
         _ => below,
+    }
+}
+
+/// The same of the statement behind `else`, if there is one.
+#[cycle(nexts)]
+pub fn next_or(below: u64, s: &Option<Boxed<Core>>) -> u64
+    ensures { (tables : Tables) → result ≡ spec.next_or below (option_map (test tables) s.now) }
+{
+    match s {
+        None => below,
+        Some(s) => next(below, s.get()),
     }
 }
 
@@ -217,7 +229,8 @@ pub fn statement(unit: &CoreUnit, below: u64, s: &Core) -> Option<u32>
             no,
             ..
         } => {
-            let sides = statement(unit, below, yes.get()).or(statement_or(unit, below, no));
+            let behind = next(below, yes.get());
+            let sides = statement(unit, below, yes.get()).or(statement_or(unit, behind, no));
             value(unit, condition.get()).or(sides)
         }
         Core::Loop {

@@ -12,7 +12,7 @@ use Rattle.cf_core.specs.Valid as valid
 use Rattle.cf_core.specs.Valid.{Body, is_complete, all_differ, role_fits, class_of_role, result_fits, body_of, fits}
 use Rattle.cf_plain.specs.Plain.{Plains, nothing}
 use Rattle.cf_plain_kept.specs.Kept.{nothing_set, function_kept, functions_kept}
-use Rattle.cf_sequence.specs.Built.{is_built_file, is_built_function, is_body, is_plain_role, is_chain, is_none, is_statement, declares_last}
+use Rattle.cf_sequence.specs.Built.{is_built_file, is_built_function, is_body, is_plain_role, is_chain, is_none, is_statement, arms_fit}
 use Rattle.cf_sequence.specs.Made.{added, declared, numbered}
 use Rattle.cf_sequence.specs.Expressions.{finished}
 use Rattle.cf_sequence.specs.Sequenced.{inside, flowed_off, sequenced_function, sequenced_file}
@@ -44,8 +44,8 @@ module _ (file : CoreFile) where
       let locals : List SourceType = parameters f.type ++ (f.locals ++ more) in
       let head : Bool = is_function f.type && role_fits file.classes (class_of_role f.role) && list_all (is_complete file.classes) own && result_fits file.classes (result f.type) in
       let fitting = both head (valid.body_fits (body_of file f) f.role f.body) is in
-      let parts = both (not (is_class (result f.type))) (is_statement (length (parameters f.type)) f.body && declares_last true f.body) built in
-      let forms : (not (is_class (result f.type)) ≡ true) × (is_statement (length (parameters f.type)) f.body ≡ true) = (parts.0, (both (is_statement (length (parameters f.type)) f.body) (declares_last true f.body) parts.1).0) in
+      let parts = both (not (is_class (result f.type))) (is_statement (length (parameters f.type)) f.body && arms_fit (length (parameters f.type) + length f.locals) f.body) built in
+      let forms : (not (is_class (result f.type)) ≡ true) × (is_statement (length (parameters f.type)) f.body ≡ true) = (parts.0, (both (is_statement (length (parameters f.type)) f.body) (arms_fit (length (parameters f.type) + length f.locals) f.body) parts.1).0) in
       let keeps : locals_of.Kept (Body.scope (body_of file f)) locals =
       record { kept = λ i t e. subst (λ l. slice_get l i ≡ Some t) (together (parameters f.type) f.locals more) (still-there own more i t e) } in
       let scalar = negated (is_class (result f.type)) forms.0 in

@@ -345,18 +345,17 @@ module _ (body : Body) (locals : List SourceType) (keeps : locals_of.Kept body.s
         let q = runs-initial f i t e start parts.1 k first l (keep-at g 0 (an_object i t)) in
         record { now = q.now; goes = λ rest. set-runs locals body.result g 0 (plain.declare i t) (an_object i t) (started f.classes t e 0 k rest) refl ∙ q.goes rest }
     runs-statement (core.branch q a o) m b c ok is f sr k g l =
-        let forms = both (is_value q) (is_statement m a && is_statement_or m o) ok in
-        let arms = both (is_statement m a) (is_statement_or m o) forms.1 in
+        let forms = both (is_value q) (is_statement m a && is_statement_or (next_local m a) o) ok in
+        let arms = both (is_statement m a) (is_statement_or (next_local m a) o) forms.1 in
         let parts = both (typed.is_condition (typing scope q) && fits body b c a) (fits_maybe body b c o) is in
         let tests = both (typed.is_condition (typing scope q)) (fits body b c a) parts.0 in
         let begin = stand-left locals k (nodes q ++ nodes a) (nodes_maybe o) l in
         let t = test-runs f q forms.0 tests.0 k g (stand-left locals k (nodes q) (nodes a) begin) in
         let left = runs-statement a m b c arms.0 tests.1 f sr (k + width q) t.now (stand-right locals k (nodes q) (nodes a) begin) in
-        let left_ends = runs-finished (declared a) left.now in
-        let right = runs-or o m b c arms.1 parts.1 f sr (k + width q + width a) t.now (stand-third locals k (nodes q) (nodes a) (nodes_maybe o) l) in
-        let left_code : Plains = statement f a (k + width q) (finished (declared a) nothing) in
+        let right = runs-or o (next_local m a) b c arms.1 parts.1 f sr (k + width q + width a) t.now (stand-third locals k (nodes q) (nodes a) (nodes_maybe o) l) in
+        let left_code : Plains = statement f a (k + width q) nothing in
         let right_code : Plains = statement_or f o (k + width q + width a) nothing in
-        let w = branch-runs t.now (0 + width q) left_code right_code left_ends.now right.now (ap integer_in t.at) (left.goes (finished (declared a) nothing) ∙ left_ends.goes nothing) (right.goes nothing) in
+        let w = branch-runs t.now (0 + width q) left_code right_code left.now right.now (ap integer_in t.at) (left.goes nothing) (right.goes nothing) in
         record { now = w.now; goes = λ rest. t.goes (λ n. more (branch n left_code right_code) rest) ∙ w.goes rest }
     runs-statement (core.loop how q e s) m b c ok is f sr k g l =
         let forms = both (is_condition q) (is_condition e && is_statement m s) ok in
@@ -401,8 +400,7 @@ module _ (body : Body) (locals : List SourceType) (keeps : locals_of.Kept body.s
     runs-or : (o : MaybeCore) (m : ℕ) (b c : Bool) → is_statement_or m o ≡ true → fits_maybe body b c o ≡ true → (f : Inside) → is_class f.result ≡ false → (k : ℕ) (g : Keeping) → Stand locals k (added (nodes_maybe o))
         → Runs g (statement_or f o k)
     runs-or absent m b c ok is f sr k g l = runs-none g
-    runs-or (some_core s) m b c ok is f sr k g l =
-        let p = runs-statement s m b c ok is f sr k g l in runs-then (statement f s k) (finished (declared s)) g p (runs-finished (declared s) p.now)
+    runs-or (some_core s) m b c ok is f sr k g l = runs-statement s m b c ok is f sr k g l
 
     runs-statements : (es : Cores) (m : ℕ) (b c : Bool) → are_statements m es ≡ true → all_fit body b c es ≡ true → (f : Inside) → is_class f.result ≡ false → (k : ℕ) (g : Keeping) → Stand locals k (added (nodes_all es))
         → Runs g (statements f es k)

@@ -9,7 +9,7 @@ use Rattle.cf_core.specs.Joined.{is_nothing}
 use Rattle.cf_core.specs.Nodes.{nodes}
 use Rattle.cf_plain.specs.Plain.{Action, Plains, act, set, nothing, more}
 use Rattle.cf_plain.specs.Plain as plain
-use Rattle.cf_sequence.specs.Built.{is_body, is_statement, declares_last, is_built_static}
+use Rattle.cf_sequence.specs.Built.{is_body, is_statement, arms_fit, is_built_static}
 use Rattle.cf_sequence.specs.Made.{Local, added, declared, numbered}
 use Rattle.cf_sequence.specs.Expressions.{finished}
 use Rattle.cf_sequence.specs.Statements.{type_of_static, binds, reached, started, initialised}
@@ -47,8 +47,8 @@ module _ (T : Action → Type 0) (L : List ℤ → Type 0) (U : Core → Type 0)
       → Space B p W d 0 (length (parameters f.type) + length f.locals) (nodes f.body) → AllPass T L B (sequenced_body classes statics f) d
   function-passes d classes statics f built u passed space =
       let stated = is_statement (length (parameters f.type)) f.body in
-      let forms = both (not (is_class (result f.type))) (stated && declares_last true f.body) built in
-      let stands = (both stated (declares_last true f.body) forms.1).0 in
+      let forms = both (not (is_class (result f.type))) (stated && arms_fit (length (parameters f.type) + length f.locals) f.body) built in
+      let stands = (both stated (arms_fit (length (parameters f.type) + length f.locals) f.body) forms.1).0 in
       let scalar : is_class (result f.type) ≡ false = negated (is_class (result f.type)) forms.0 in
       let w : Works T L U B p W suits f.body = works T L U B p W suits f.body (length (parameters f.type)) stands u in
       let locals : List Local = reverse (numbered 0 (parameters f.type)) in

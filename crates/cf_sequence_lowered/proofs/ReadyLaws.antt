@@ -12,7 +12,7 @@ use Rattle.cf_core.specs.Valid.{Body, body_of, fits}
 use Rattle.cf_plain.specs.Plain.{Plain, Plains, PlainFunction, act, set, branch, loop, switch, case_label, default_label, leave, continue, give, parts, nothing, more}
 use Rattle.cf_plain_kept.specs.Kept.{Keeping, nothing_set, after, function_kept}
 use Rattle.cf_lower_kept.specs.Ready.{names_well, names_well_if, ready, all_ready, function_ready, functions_ready}
-use Rattle.cf_sequence.specs.Built.{is_built_file, is_plain_role, is_statement, declares_last}
+use Rattle.cf_sequence.specs.Built.{is_built_file, is_plain_role, is_statement, arms_fit}
 use Rattle.cf_sequence.specs.Made.{makes, added, declared, numbered}
 use Rattle.cf_sequence.specs.Expressions.{finished}
 use Rattle.cf_sequence.specs.Statements.{statement}
@@ -102,8 +102,8 @@ module _ (file : CoreFile) where
       let locals : List SourceType = parameters f.type ++ (f.locals ++ extra) in
       let fitting = both _ (valid.body_fits (body_of file f) f.role f.body) (Asked.fitting a) in
       let stated = is_statement (length (parameters f.type)) f.body in
-      let forms = both (not (is_class (result f.type))) (stated && declares_last true f.body) (BuiltFunction.body (Asked.form a)) in
-      let stands = (both stated (declares_last true f.body) forms.1).0 in
+      let forms = both (not (is_class (result f.type))) (stated && arms_fit (length (parameters f.type) + length f.locals) f.body) (BuiltFunction.body (Asked.form a)) in
+      let stands = (both stated (arms_fit (length (parameters f.type) + length f.locals) f.body) forms.1).0 in
       let scalar : is_class (result f.type) ≡ false = negated (is_class (result f.type)) forms.0 in
       let keeps : locals_of.Kept (Body.scope (body_of file f)) locals =
       record { kept = λ i t e. subst (λ l. slice_get l i ≡ Some t) (together (parameters f.type) f.locals extra) (still-there own extra i t e) } in

@@ -20,7 +20,7 @@ use Rattle.cf_plain.specs.Plain as plain
 use Rattle.cf_plain_kept.specs.Kept.{Keeping, keep, an_object}
 use Rattle.cf_lower_kept.specs.Ready.{names_well, names_well_if, is_the_type}
 use Rattle.cf_sequence.specs.Built.{is_value, is_element, is_held, is_condition, is_statement, is_statement_or, are_cases, are_statements, next_local}
-use Rattle.cf_sequence.specs.Made.{Local, Temporary, temporaries, added, width, width_maybe, declared, declared_all, held_by}
+use Rattle.cf_sequence.specs.Made.{Local, Temporary, temporaries, added, width, width_maybe, declared, declared_maybe, declared_all, held_by}
 use Rattle.cf_sequence.specs.Expressions.{Full, destination, value, whole, flags, ended, finished, settled, used}
 use Rattle.cf_sequence.specs.Statements.{Inside, declares, opened, in_loop, in_switch, held, stepped, started, made, passing, passes_local, passed, looping, statement, statement_or, statements}
 use Rattle.cf_sequence.proofs.Calling.{never, or-else}
@@ -171,6 +171,7 @@ module _ (body : Body) (locals : List SourceType) (keeps : locals_of.Kept body.s
     code : (f : Inside) → is_class f.result ≡ false → (k : ℕ) → Stand locals k (added (nodes_all es)) → RunsHere (statements f es k)
 
   record MaybeWorks (o : MaybeCore) : Type 0 where
+    owns : Owns (declared_maybe o)
     code : (f : Inside) → is_class f.result ≡ false → (k : ℕ) → Stand locals k (added (nodes_maybe o)) → RunsHere (statement_or f o k)
 
   leaving : (xs : List Local) (last : Plains → Plains) → RunsHere last → RunsHere (λ rest. finished xs (last rest))
@@ -258,26 +259,24 @@ module _ (body : Body) (locals : List SourceType) (keeps : locals_of.Kept body.s
               record { now = Lucky.now q; goes = λ rest. Lucky.goes q rest; walks = λ rest ok. (own, Lucky.walks q rest ok) };
         }
     run-statement (core.branch q a o) m b c ok is u =
-        let forms = both (is_value q) (is_statement m a && is_statement_or m o) ok in
-        let arms = both (is_statement m a) (is_statement_or m o) forms.1 in
+        let forms = both (is_value q) (is_statement m a && is_statement_or (next_local m a) o) ok in
+        let arms = both (is_statement m a) (is_statement_or (next_local m a) o) forms.1 in
         let parts = both (typed.is_condition (typing scope q) && fits body b c a) (fits_maybe body b c o) is in
         let tests = both (typed.is_condition (typing scope q)) (fits body b c a) parts.0 in
         let first = each-left Ready (nodes q ++ nodes a) (nodes_maybe o) u.1 in
         let one_way = run-statement a m b c arms.0 tests.1 (each-right Ready (nodes q) (nodes a) first) in
-        let other_way = run-or o m b c arms.1 parts.1 (each-right Ready (nodes q ++ nodes a) (nodes_maybe o) u.1) in
+        let other_way = run-or o (next_local m a) b c arms.1 parts.1 (each-right Ready (nodes q ++ nodes a) (nodes_maybe o) u.1) in
         record {
-          owns = tt;
+          owns = each-two (Exact locals body.result) (declared_maybe o) (declared a) (MaybeWorks.owns other_way) (Works.owns one_way);
           code = λ f scalar k l.
               let begin = stand-left locals k (nodes q ++ nodes a) (nodes_maybe o) l in
-              let left = statement f a (k + width q) (finished (declared a) nothing) in
+              let left = statement f a (k + width q) nothing in
               let right = statement_or f o (k + width q + width a) nothing in
               run-whole body locals keeps named f q forms.0 (conditions-serve (typing scope q) tests.0) (each-left Ready (nodes q) (nodes a) first) 0 k (stand-left locals k (nodes q) (nodes a) begin)
               (λ n rest. more (set n (plain.truth n)) rest) (λ n rest. more (branch n left right) rest) run-truth
               (λ n.
               runs-branch locals body.result n left right
-              (alone locals body.result (λ rest. statement f a (k + width q) (finished (declared a) rest))
-              (chain (statement f a (k + width q)) (finished (declared a)) (Works.code one_way f scalar (k + width q) (stand-right locals k (nodes q) (nodes a) begin))
-              (runs-finished locals body.result (declared a))))
+              (alone locals body.result (statement f a (k + width q)) (Works.code one_way f scalar (k + width q) (stand-right locals k (nodes q) (nodes a) begin)))
               (alone locals body.result (statement_or f o (k + width q + width a))
               (MaybeWorks.code other_way f scalar (k + width q + width a) (stand-third locals k (nodes q) (nodes a) (nodes_maybe o) l)))) None;
         }
@@ -321,10 +320,10 @@ module _ (body : Body) (locals : List SourceType) (keeps : locals_of.Kept body.s
     run-statement s m b c ok is u = never ok
 
     run-or : (o : MaybeCore) (m : ℕ) (b c : Bool) → is_statement_or m o ≡ true → fits_maybe body b c o ≡ true → Each Ready (nodes_maybe o) → MaybeWorks o
-    run-or absent m b c ok is u = record { code = λ f scalar k l. runs-none locals body.result }
+    run-or absent m b c ok is u = record { owns = tt; code = λ f scalar k l. runs-none locals body.result }
     run-or (given s) m b c ok is u =
         let one = run-statement s m b c ok is u in
-        record { code = λ f scalar k l. chain (statement f s k) (finished (declared s)) (Works.code one f scalar k l) (runs-finished locals body.result (declared s)) }
+        record { owns = Works.owns one; code = Works.code one }
 
     run-all : (es : Cores) (m : ℕ) (b c : Bool) → are_statements m es ≡ true → all_fit body b c es ≡ true → Each Ready (nodes_all es) → AllWork es
     run-all none m b c ok is u = record { owns = tt; code = λ f scalar k l. runs-none locals body.result }

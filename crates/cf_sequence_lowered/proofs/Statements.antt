@@ -12,7 +12,7 @@ use Rattle.cf_core.specs.Nodes.{nodes, nodes_all, nodes_maybe}
 use Rattle.cf_plain.specs.Plain.{Register, Action, Plains, act, set, branch, loop, switch, case_label, default_label, leave, continue, give, nothing, more}
 use Rattle.cf_plain.specs.Plain as plain
 use Rattle.cf_sequence.specs.Built.{is_value, is_start, is_condition, is_element, is_held, is_statement, is_statement_or, are_cases, are_statements, next_local}
-use Rattle.cf_sequence.specs.Made.{Local, added, width, width_maybe, declared, declared_all}
+use Rattle.cf_sequence.specs.Made.{Local, added, width, width_maybe, declared, declared_maybe, declared_all}
 use Rattle.cf_sequence.specs.Expressions.{value, whole, finished, used}
 use Rattle.cf_sequence.specs.Statements.{Inside, declares, opened, in_loop, in_switch, held, stepped, started, made, passing, passes_local, passed, looping, statement, statement_or, statements}
 use Rattle.cf_sequence.proofs.Calling.{never, or-else}
@@ -154,6 +154,7 @@ module _ (T : Action → Type 0) (L : List ℤ → Type 0) (U : Core → Type 0)
     pub code : (f : Inside) → Around f → (d k : ℕ) → Space B p W d 0 k (nodes_all es) → Fine T L B d (statements f es k)
 
   pub record MaybeWorks (o : MaybeCore) : Type 0 where
+    pub owns : Each (Own T L U p) (declared_maybe o)
     pub code : (f : Inside) → Around f → (d k : ℕ) → Space B p W d 0 k (nodes_maybe o) → Fine T L B d (statement_or f o k)
 
   -- the statements and labels of a switch
@@ -280,8 +281,7 @@ module _ (T : Action → Type 0) (L : List ℤ → Type 0) (U : Core → Type 0)
   branch-fine f q a o around is u first other d k r =
       let inside = space-parts B p W d 0 k (core.branch q a o) (nodes q ++ nodes a ++ nodes_maybe o) refl r in
       let begin = space-left B p W d 0 k (nodes q ++ nodes a) (nodes_maybe o) inside in
-      let ends : Plains = finished (declared a) nothing in
-      let left = statement f a (k + width q) ends in
+      let left = statement f a (k + width q) nothing in
       let right = statement_or f o (k + width q + width a) nothing in
       let two_of = added-two (nodes q) (nodes a) in
       let at : k + length (added (nodes q ++ nodes a)) ≡ k + width q + width a = omega arith in
@@ -289,8 +289,7 @@ module _ (T : Action → Type 0) (L : List ℤ → Type 0) (U : Core → Type 0)
       fine-value d f q is u k (space-left B p W d 0 k (nodes q) (nodes a) begin) (λ n rest. more (set n (plain.truth n)) rest) (λ n rest. more (branch n left right) rest) (fine-truth d)
       (λ n low.
       fine-branch T L B d n left right
-      (Fine.pass (first.code f around d (k + width q) (space-right B p W d 0 k (nodes q) (nodes a) begin)) ends
-      (Fine.pass (fine-finished T L U B p suits d (declared a) first.owns) nothing tt))
+      (Fine.pass (first.code f around d (k + width q) (space-right B p W d 0 k (nodes q) (nodes a) begin)) nothing tt)
       (Fine.pass (other.code f around d (k + width q + width a) last) nothing tt))
 
   -- a way out, behind the ends of locals
@@ -329,12 +328,15 @@ module _ (T : Action → Type 0) (L : List ℤ → Type 0) (U : Core → Type 0)
               (StartsWell.code (starts-well T L U B p W suits f.classes i t e start u.1) d k (space-parts B p W d 0 k (core.declare i t e) (nodes e) refl r));
         }
     works (core.branch q a o) m ok u =
-        let forms = both (is_value q) (is_statement m a && is_statement_or m o) ok in
-        let arms = both (is_statement m a) (is_statement_or m o) forms.1 in
+        let forms = both (is_value q) (is_statement m a && is_statement_or (next_local m a) o) ok in
+        let arms = both (is_statement m a) (is_statement_or (next_local m a) o) forms.1 in
         let first = each-left U (nodes q ++ nodes a) (nodes_maybe o) u.1 in
         let first_works = works a m arms.0 (each-right U (nodes q) (nodes a) first) in
-        let other_works = work-or o m arms.1 (each-right U (nodes q ++ nodes a) (nodes_maybe o) u.1) in
-        record { owns = tt; code = λ f around d k r. branch-fine f q a o around forms.0 (each-left U (nodes q) (nodes a) first) first_works other_works d k r }
+        let other_works = work-or o (next_local m a) arms.1 (each-right U (nodes q ++ nodes a) (nodes_maybe o) u.1) in
+        record {
+          owns = two (declared_maybe o) (declared a) other_works.owns first_works.owns;
+          code = λ f around d k r. branch-fine f q a o around forms.0 (each-left U (nodes q) (nodes a) first) first_works other_works d k r;
+        }
     works (core.loop how q e s) m ok u =
         let forms = both (is_condition q) (is_condition e && is_statement m s) ok in
         let rest = both (is_condition e) (is_statement m s) forms.1 in
@@ -358,12 +360,9 @@ module _ (T : Action → Type 0) (L : List ℤ → Type 0) (U : Core → Type 0)
     works s m ok u = never ok
 
     work-or : (o : MaybeCore) (m : ℕ) → is_statement_or m o ≡ true → Each U (nodes_maybe o) → MaybeWorks o
-    work-or absent m ok u = record { code = λ f a d k r. fine-none T L B d }
+    work-or absent m ok u = record { owns = tt; code = λ f a d k r. fine-none T L B d }
     work-or (given s) m ok u =
-        let one = works s m ok u in
-        record {
-          code = λ f a d k r. fine-then T L B d (statement f s k) (finished (declared s)) (one.code f a d k r) (fine-finished T L U B p suits d (declared s) one.owns);
-        }
+        let one = works s m ok u in record { owns = one.owns; code = one.code }
 
     work-all : (es : Cores) (m : ℕ) → are_statements m es ≡ true → Each U (nodes_all es) → AllWork es
     work-all none m ok u = record { owns = tt; code = λ f a d k r. fine-none T L B d }

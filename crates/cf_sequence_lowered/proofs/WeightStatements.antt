@@ -12,7 +12,7 @@ use Rattle.cf_core.specs.Joined.{is_nothing}
 use Rattle.cf_core.specs.Nodes.{nodes, nodes_all, nodes_maybe}
 use Rattle.cf_plain.specs.Plain.{Register, Action, Plains, act, set, branch, loop, switch, case_label, default_label, leave, continue, give, nothing, more}
 use Rattle.cf_plain.specs.Plain as plain
-use Rattle.cf_sequence.specs.Built.{is_value, is_start, is_condition, is_element, is_held, is_statement, is_statement_or, declares_last, are_cases, are_statements, next_local, is_body, is_built_static}
+use Rattle.cf_sequence.specs.Built.{is_value, is_start, is_condition, is_element, is_held, is_statement, is_statement_or, arms_fit, are_cases, are_statements, next_local, is_body, is_built_static}
 use Rattle.cf_sequence.specs.Made.{Local, width, width_maybe, declared, declared_all, numbered}
 use Rattle.cf_sequence.specs.Expressions.{value, whole, finished, used}
 use Rattle.cf_sequence.specs.Statements.{Inside, declares, opened, in_loop, in_switch, held, stepped, started, made, passing, passes_local, passed, looping, statement, statement_or, statements, type_of_static, binds, reached, initialised}
@@ -116,11 +116,9 @@ module _ (g : ℕ → ℕ) where
 
   light-branch : (q a : Core) (o : MaybeCore) → is_value q ≡ true → Weighs a → WeighsMaybe o → Weighs (core.branch q a o)
   light-branch q a o is one other f scalar k =
-      let ends : Plains = finished (declared a) nothing in
-      let left = statement f a (k + width q) ends in
+      let left = statement f a (k + width q) nothing in
       let right = statement_or f o (k + width q + width a) nothing in
-      let x = Light.light (one f scalar (k + width q)) ends in
-      let z = Light.light (light-finished g (declared a)) nothing in
+      let x = Light.light (one f scalar (k + width q)) nothing in
       let y = Light.light (other f scalar (k + width q + width a)) nothing in
       let two = weight-two g (nodes q) (nodes a) in
       let all = weight-two g (nodes q ++ nodes a) (nodes_maybe o) in
@@ -187,9 +185,9 @@ module _ (g : ℕ → ℕ) where
         light-more g (nodes_weight g (nodes_all es)) (nodes_weight g (nodes (core.sequence es))) (statement f (core.sequence es) k) (omega arith) (light-all es m ok f scalar k)
     light-statement (core.declare i t e) m ok = light-declare i t e (both (nat_le m i) (is_element t e || is_held i e) ok).1
     light-statement (core.branch q a o) m ok =
-        let forms = both (is_value q) (is_statement m a && is_statement_or m o) ok in
-        let arms = both (is_statement m a) (is_statement_or m o) forms.1 in
-        light-branch q a o forms.0 (light-statement a m arms.0) (light-or o m arms.1)
+        let forms = both (is_value q) (is_statement m a && is_statement_or (next_local m a) o) ok in
+        let arms = both (is_statement m a) (is_statement_or (next_local m a) o) forms.1 in
+        light-branch q a o forms.0 (light-statement a m arms.0) (light-or o (next_local m a) arms.1)
     light-statement (core.loop how q e s) m ok =
         let forms = both (is_condition q) (is_condition e && is_statement m s) ok in
         let rest = both (is_condition e) (is_statement m s) forms.1 in
@@ -204,8 +202,7 @@ module _ (g : ℕ → ℕ) where
 
     light-or : (o : MaybeCore) (m : ℕ) → is_statement_or m o ≡ true → WeighsMaybe o
     light-or absent m ok = λ f scalar k. light-none g
-    light-or (given s) m ok = λ f scalar k.
-        light-last g (nodes_weight g (nodes s)) (statement f s k) (finished (declared s)) (light-statement s m ok f scalar k) (light-finished g (declared s))
+    light-or (given s) m ok = light-statement s m ok
 
     light-all : (es : Cores) (m : ℕ) → are_statements m es ≡ true → WeighAll es
     light-all none m ok = λ f scalar k. light-none g
@@ -238,8 +235,8 @@ module _ (g : ℕ → ℕ) where
   pub light-body : (classes : List Class) (statics : List Static) (f : Function) → is_body f ≡ true → mass g (sequenced_body classes statics f) ≤ nodes_weight g (nodes f.body)
   light-body classes statics f built =
       let stated = is_statement (length (parameters f.type)) f.body in
-      let forms = both (not (is_class (result f.type))) (stated && declares_last true f.body) built in
-      let stands = (both stated (declares_last true f.body) forms.1).0 in
+      let forms = both (not (is_class (result f.type))) (stated && arms_fit (length (parameters f.type) + length f.locals) f.body) built in
+      let stands = (both stated (arms_fit (length (parameters f.type) + length f.locals) f.body) forms.1).0 in
       let scalar : is_class (result f.type) ≡ false = negated (is_class (result f.type)) forms.0 in
       let flowed : Plains = finished (reverse (numbered 0 (parameters f.type))) nothing in
       let a = Light.light (light-statement f.body (length (parameters f.type)) stands (inside classes statics f) scalar (length (parameters f.type) + length f.locals))

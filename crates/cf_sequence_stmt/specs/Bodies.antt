@@ -49,6 +49,14 @@ left_to mark b = on (ended (drop mark b.scope)) b
 unfoldable pub closed_to : ℕ → Body → Body
 closed_to mark b = let c = left_to mark b in record c { scope = take mark c.scope }
 
+-- those behind so many are put aside, while others are declared in their place
+unfoldable pub set_aside : ℕ → Body → Body
+set_aside mark b = record b { scope = take mark b.scope }
+
+-- they are there again, before those that were declared since
+unfoldable pub taken_back : ℕ → List Open → Body → Body
+taken_back mark xs b = record b { scope = (take mark b.scope ++ xs) ++ drop mark b.scope }
+
 -- Expressions.
 
 -- The flag of a temporary in a branch holds 0 before its full expression (12.2).

@@ -1,5 +1,5 @@
 -- What is written for statements, node by node.
-use Rattle.std.specs.Prelude.{ℕ, zero, suc, ◌-◌, Bool, true, false, ◌&&◌, ◌||◌, nat_lt, if◌then◌else◌, List, [], ◌∷◌, ◌++◌, length, Option, Some, None, is_some}
+use Rattle.std.specs.Prelude.{ℕ, zero, suc, drop, ◌-◌, Bool, true, false, ◌&&◌, ◌||◌, nat_lt, if◌then◌else◌, List, [], ◌∷◌, ◌++◌, length, Option, Some, None, is_some}
 use Rattle.cf_types.specs.Table.{Table}
 use Rattle.cf_core.specs.declared.operators.LoopForm.{LoopForm}
 use Rattle.cf_core.specs.declared.operators.LoopForm.TheVariants as form
@@ -19,7 +19,7 @@ use Rattle.cf_sequence_stmt.specs.declared.body.Open.{Open}
 use Rattle.cf_sequence_stmt.specs.declared.body.Ways.{Ways}
 use Rattle.cf_sequence_stmt.specs.declared.rows.Row.{Row}
 use Rattle.cf_sequence_stmt.specs.Rows.{row_at}
-use Rattle.cf_sequence_stmt.specs.Bodies.{Initial, does_nothing, fills, lists, gives, started, element_placed, with_held, behind_flags, left_to, closed_to, full, given, tested, declared, stated, begun, chosen, turned, switched, with_code, passed_at}
+use Rattle.cf_sequence_stmt.specs.Bodies.{Initial, does_nothing, fills, lists, gives, started, element_placed, with_held, behind_flags, left_to, closed_to, full, given, tested, declared, stated, begun, chosen, turned, switched, with_code, passed_at, set_aside, taken_back}
 
 pub record Step : Type 0 where
   pub piece : Piece  -- as an expression
@@ -28,20 +28,17 @@ pub record Step : Type 0 where
   -- as a statement, where `break` and `continue` leave the locals behind so many
   pub act : Ways → Body → Body
   pub label : Option Plain  -- as a label of a switch
-  pub opens : List Open → List Open  -- the locals that it declares in the scope at hand, behind those so far
+  pub opens : List Open → List Open  -- the locals that it declares in the scope at hand, also in the arms of an `if`, behind those so far
 
 -- the statements in order
 abbrev pub in_order : List Step → Ways → Body → Body
 in_order [] ways b = b
 in_order (s ∷ ss) ways b = in_order ss ways (s.act ways b)
 
--- an arm of an `if`, with the ends of what it declares in the scope at hand
-abbrev pub arm : Step → Ways → Body → Body
-arm s ways b = closed_to (length b.scope) (s.act ways b)
-
+-- the statement behind `else`, if there is one
 abbrev pub or_nothing : Option Step → Ways → Body → Body
 or_nothing None ways b = b
-or_nothing (Some s) ways b = arm s ways b
+or_nothing (Some s) ways b = s.act ways b
 
 -- statements in a scope of their own (6.3)
 abbrev pub block : List Step → Ways → Body → Body
@@ -83,6 +80,10 @@ abbrev pub all_open : List Step → List Open → List Open
 all_open [] xs = xs
 all_open (s ∷ ss) xs = all_open ss (s.opens xs)
 
+abbrev pub or_open : Option Step → List Open → List Open
+or_open None xs = xs
+or_open (Some s) xs = s.opens xs
+
 -- a label of the switch before a switch: what it passes is there
 abbrev pub labelled : Option Plain → List Open → Body → Body
 labelled None xs b = b
@@ -113,11 +114,14 @@ selection e ss ways b =
     let v = selected (behind_flags 0 e.piece) ss (given e.piece b) in
     switched (behind_flags 0 e.piece) v.writing.code (cases ss ways (begun v))
 
+-- What an arm declares by itself is open behind the `if` too, and not in the other arm (6.5.3).
 abbrev pub choice : Step → Step → Option Step → Ways → Body → Body
 choice c a b ways body =
     let t = tested c.piece body in
-    let first = arm a ways (begun t) in
-    chosen (behind_flags 0 c.piece) t.writing.code first.writing.code (or_nothing b ways (begun first))
+    let mark = length t.scope in
+    let first = a.act ways (begun t) in
+    let other = begun first in
+    taken_back mark (drop mark other.scope) (chosen (behind_flags 0 c.piece) t.writing.code first.writing.code (or_nothing b ways (set_aside mark other)))
 
 -- all that is open ends before the function does (6.6.3)
 abbrev pub returned : Option Step → Body → Body
@@ -151,6 +155,7 @@ label_step other = None
 abbrev pub opens_step : Core-F Step Step → List Open → List Open
 opens_step (Core-F.Declare at i t e) xs = with_held e.held xs ++ record { number = i; ty = t } ∷ []
 opens_step (Core-F.Sequence at ss) xs = all_open ss xs
+opens_step (Core-F.If at c a b) xs = or_open b (a.opens xs)
 opens_step other xs = xs
 
 abbrev pub of_holder : Holder → Option Open

@@ -1,6 +1,6 @@
 //! The body of a function while it is sequenced.
 
-ghost use Rattle.std.specs.Prelude.{◌≡◌, take, drop, OnOk};
+ghost use Rattle.std.specs.Prelude.{◌≡◌, ◌++◌, take, drop, IfOk, OnOk};
 ghost use Rattle.cf_sequence_stmt.specs.Bodies as spec;
 
 use cf_base::{Items, Memory};
@@ -139,6 +139,30 @@ impl Body {
         self.scope = Items::from_slice(self.writing.alloc, first(self.scope.as_slice(), mark))?;
         Ok(())
     }
+
+    /// The locals behind so many are put aside, while others are declared in their place.
+    #[tactic(auto, unfolding(crate::specs::Bodies::set_aside))]
+    pub fn set_aside(&mut self, mark: usize) -> Result<Items<Open>, Memory>
+        ensures rest { OnOk result (self.new ≡ spec.set_aside mark self.old) }
+        ensures aside { IfOk result (λ aside. aside ≡ drop mark self.old.scope) }
+    {
+        let aside = Items::from_slice(self.writing.alloc, beyond(self.scope.as_slice(), mark))?;
+        self.scope = Items::from_slice(self.writing.alloc, first(self.scope.as_slice(), mark))?;
+        Ok(aside)
+    }
+
+    /// They are there again, before those that were declared since.
+    #[tactic(auto, unfolding(crate::specs::Bodies::taken_back))]
+    pub fn take_back(&mut self, mark: usize, aside: Items<Open>) -> Result<(), Memory>
+        ensures { OnOk result (self.new ≡ spec.taken_back mark aside self.old) }
+    {
+        let since = Items::from_slice(self.writing.alloc, beyond(self.scope.as_slice(), mark))?;
+        let mut scope = Items::from_slice(self.writing.alloc, first(self.scope.as_slice(), mark))?;
+        put_all(aside.as_slice(), &mut scope)?;
+        put_all(since.as_slice(), &mut scope)?;
+        self.scope = scope;
+        Ok(())
+    }
 }
 
 /// So many locals, the oldest.
@@ -150,4 +174,14 @@ fn first(scope: &[Open], mark: usize) -> &[Open]
     } else {
         scope
     }
+}
+
+/// Puts these locals behind others.
+fn put_all(locals: &[Open], scope: &mut Items<Open>) -> Result<(), Memory>
+    ensures { OnOk result (scope.new ≡ scope.old ++ locals.now) }
+{
+    for x in locals {
+        scope.push(*x)?;
+    }
+    Ok(())
 }

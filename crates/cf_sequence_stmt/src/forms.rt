@@ -48,11 +48,14 @@ pub fn statement(unit: &CoreUnit, s: &Core, ways: Ways, b: &mut Body) -> Result<
             ..
         } => {
             let n = tested(unit, condition.get(), b)?;
+            let mark = b.scope.len();
             let before = b.begin();
-            arm(unit, yes.get(), ways, b)?;
+            statement(unit, yes.get(), ways, b)?;
             let first = b.begin();
+            let aside = b.set_aside(mark)?;
             otherwise(unit, no, ways, b)?;
-            b.branch(n, before, first)
+            b.branch(n, before, first)?;
+            b.take_back(mark, aside)
         }
         Core::Loop {
             form,
@@ -140,7 +143,7 @@ pub fn statements(unit: &CoreUnit, all: &[Core], ways: Ways, b: &mut Body) -> Re
     Ok(())
 }
 
-/// Writes the statement behind `else`, if there is one (6.4.1).
+/// Writes the statement behind `else`, if there is one (6.4.1). What it declares by itself ends with the scope around the `if` (6.5.3).
 #[cycle(statements)]
 fn otherwise(
     unit: &CoreUnit,
@@ -153,19 +156,8 @@ fn otherwise(
 {
     match s {
         None => Ok(()),
-        Some(s) => arm(unit, s.get(), ways, b),
+        Some(s) => statement(unit, s.get(), ways, b),
     }
-}
-
-/// Writes an arm of an `if`. What it declares in the scope at hand ends with it: the `if` is the last statement of that scope (6.5.3).
-#[cycle(statements)]
-fn arm(unit: &CoreUnit, s: &Core, ways: Ways, b: &mut Body) -> Result<(), Memory>
-    requires { are_known (tables_of unit.now) s.now ≡ true }
-    ensures { OnOk result (b.new ≡ spec.arm (step unit.now.types s.now) ways b.old) }
-{
-    let mark = b.scope.len();
-    statement(unit, s, ways, b)?;
-    b.close(mark)
 }
 
 /// Writes a switch behind its value, and the switch before it that declares what a label passes (6.4.2, 6.7).

@@ -1,13 +1,14 @@
 //! What the labels of a switch pass: a switch before it declares the locals that stand before each label, in order (6.7).
 
 ghost use Rattle.std.specs.Prelude.{◌≡◌, [], false, is_some, map, IfOk, OnOk};
+ghost use Rattle.std.specs.Option.{option_map};
 ghost use Rattle.cf_sequence_stmt.specs.Bodies.{there, passed_at, with_held};
 ghost use Rattle.cf_sequence_stmt.specs.Steps.{step};
 ghost use Rattle.cf_sequence_stmt.specs.Steps as spec;
 
 use crate::body::{Body, Open};
 use crate::initials::held;
-use cf_base::{Items, Memory};
+use cf_base::{Boxed, Items, Memory};
 use cf_core::{Core, CoreUnit};
 use cf_plain::{Action, Plain};
 use cf_sequence_expr::Writing;
@@ -94,7 +95,7 @@ fn hold_in(held: Option<Open>, locals: &mut Items<Open>) -> Result<(), Memory>
     }
 }
 
-/// Adds the locals that a statement declares in the scope at hand.
+/// Adds the locals that a statement declares in the scope at hand, also in the arms of an `if`.
 #[cycle(declares)]
 fn declares(unit: &CoreUnit, s: &Core, locals: &mut Items<Open>) -> Result<(), Memory>
     ensures { OnOk result (locals.new ≡ (step unit.now.types s.now).opens locals.old) }
@@ -113,7 +114,26 @@ fn declares(unit: &CoreUnit, s: &Core, locals: &mut Items<Open>) -> Result<(), M
             })
         }
         Core::Sequence { statements, .. } => all_declare(unit, statements.as_slice(), locals),
+        Core::If { yes, no, .. } => {
+            declares(unit, yes.get(), locals)?;
+            or_declares(unit, no, locals)
+        }
         _ => Ok(()),
+    }
+}
+
+/// Adds those of the statement behind `else`, if there is one.
+#[cycle(declares)]
+fn or_declares(
+    unit: &CoreUnit,
+    s: &Option<Boxed<Core>>,
+    locals: &mut Items<Open>,
+) -> Result<(), Memory>
+    ensures { OnOk result (locals.new ≡ spec.or_open (option_map (step unit.now.types) s.now) locals.old) }
+{
+    match s {
+        None => Ok(()),
+        Some(s) => declares(unit, s.get(), locals),
     }
 }
 

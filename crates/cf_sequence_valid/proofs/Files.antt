@@ -18,7 +18,7 @@ use Rattle.cf_core.specs.Valid.{Body, is_complete, all_differ, role_fits, class_
 use Rattle.cf_plain.specs.Plain as plain
 use Rattle.cf_plain.specs.Plain.{Plains, PlainFunction, PlainStatic, nothing}
 use Rattle.cf_plain.specs.Valid as checks
-use Rattle.cf_sequence.specs.Built.{is_built_file, is_built_function, is_built_static, is_body, is_plain_role, is_chain, is_none, is_statement, declares_last, has_mark}
+use Rattle.cf_sequence.specs.Built.{is_built_file, is_built_function, is_built_static, is_body, is_plain_role, is_chain, is_none, is_statement, arms_fit, has_mark}
 use Rattle.cf_sequence.specs.Made.{Local, makes, added, declared, numbered}
 use Rattle.cf_sequence.specs.Expressions.{finished}
 use Rattle.cf_sequence.specs.Statements.{type_of_static, binds, reached, initialised}
@@ -87,8 +87,8 @@ module _ (file : CoreFile) where
 
     forms : (not (is_class (result f.type)) ≡ true) × (is_statement (length (parameters f.type)) f.body ≡ true)
     forms =
-        let parts = both (not (is_class (result f.type))) (is_statement (length (parameters f.type)) f.body && declares_last true f.body) built in
-        (parts.0, (both (is_statement (length (parameters f.type)) f.body) (declares_last true f.body) parts.1).0)
+        let parts = both (not (is_class (result f.type))) (is_statement (length (parameters f.type)) f.body && arms_fit (length (parameters f.type) + length f.locals) f.body) built in
+        (parts.0, (both (is_statement (length (parameters f.type)) f.body) (arms_fit (length (parameters f.type) + length f.locals) f.body) parts.1).0)
 
     body-works : Works (body_of file f) locals keeps false false f.body
     body-works = works (body_of file f) locals keeps f.body (length (parameters f.type)) false false forms.1 (plain-statement (body_of file f) f.role f.body plain_role fitting.1)

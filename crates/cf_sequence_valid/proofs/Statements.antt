@@ -22,7 +22,7 @@ use Rattle.cf_plain.specs.Running.{has_case}
 use Rattle.cf_plain.specs.Valid as checks
 use Rattle.cf_plain.specs.Valid.{is_of}
 use Rattle.cf_sequence.specs.Built.{is_value, is_condition, is_held, is_statement, is_statement_or, are_cases, are_statements, next_local}
-use Rattle.cf_sequence.specs.Made.{Local, added, width, width_maybe, declared, declared_all, held_by}
+use Rattle.cf_sequence.specs.Made.{Local, added, width, width_maybe, declared, declared_maybe, declared_all, held_by}
 use Rattle.cf_sequence.specs.Expressions.{value, whole, finished, used}
 use Rattle.cf_sequence.specs.Statements.{Inside, declares, opened, in_loop, in_switch, held, stepped, started, passed, looping, statement, statement_or, statements}
 use Rattle.cf_sequence.proofs.Calling.{never}
@@ -233,6 +233,7 @@ module _ (body : Body) (locals : List SourceType) (keeps : Kept body.scope local
 
   pub record MaybeWorks (b c : Bool) (o : MaybeCore) : Type 0 where
     pub complete : are_complete (added (nodes_maybe o)) ≡ true
+    pub there : are_there locals (declared_maybe o) ≡ true
     pub code : (f : Inside) → Stays locals f → (k : ℕ) → Stand locals k (added (nodes_maybe o)) → Fine locals b c (statement_or f o k)
 
   loop-fine : {b c : Bool} (how : LoopForm) (f : Inside) (q e : MaybeCore) (s : Core) → Stays locals f → is_condition q ≡ true → is_condition e ≡ true → condition_fits body q ≡ true
@@ -296,27 +297,26 @@ module _ (body : Body) (locals : List SourceType) (keeps : Kept body.scope local
               fine-then locals (λ rest. more (set 0 (plain.declare i t)) rest) (started f.classes t e 0 k) (fine-set locals 0 (plain.declare i t) there) (good.code b c f k l);
         }
     works (core.branch q a o) m b c ok is =
-        let forms = both (is_value q) (is_statement m a && is_statement_or m o) ok in
-        let arms = both (is_statement m a) (is_statement_or m o) forms.1 in
+        let forms = both (is_value q) (is_statement m a && is_statement_or (next_local m a) o) ok in
+        let arms = both (is_statement m a) (is_statement_or (next_local m a) o) forms.1 in
         let parts = both (typed.is_condition (typing scope q) && fits body b c a) (fits_maybe body b c o) is in
         let tested = both (typed.is_condition (typing scope q)) (fits body b c a) parts.0 in
         let s = conditions-serve (typing scope q) tested.0 in
         let yes = works a m b c arms.0 tested.1 in
-        let no = work-or o m b c arms.1 parts.1 in
+        let no = work-or o (next_local m a) b c arms.1 parts.1 in
         record {
           complete =
               complete-two [] scope locals keeps (nodes q ++ nodes a) (nodes_maybe o)
               (complete-two [] scope locals keeps (nodes q) (nodes a) (Good.complete (good-value [] scope locals keeps q forms.0 s)) yes.complete) no.complete;
-          there = refl;
+          there = there-two locals (declared_maybe o) (declared a) no.there yes.there;
           code = λ f st k l.
               let begin = stand-left locals k (nodes q ++ nodes a) (nodes_maybe o) l in
-              let left = statement f a (k + width q) (finished (declared a) nothing) in
+              let left = statement f a (k + width q) nothing in
               let right = statement_or f o (k + width q + width a) nothing in
               fine-whole body locals keeps f q forms.0 s 0 k (stand-left locals k (nodes q) (nodes a) begin) (λ n rest. more (set n (plain.truth n)) rest) (λ n rest. more (branch n left right) rest) truth-fine
               (λ n.
               fine-branch locals n left right
-              (Fine.fit (yes.code f st (k + width q) (stand-right locals k (nodes q) (nodes a) begin)) (finished (declared a) nothing)
-              (Fine.fit (fine-finished locals {b = b} {c = c} (declared a) yes.there) nothing refl))
+              (Fine.fit (yes.code f st (k + width q) (stand-right locals k (nodes q) (nodes a) begin)) nothing refl)
               (Fine.fit (no.code f st (k + width q + width a) (stand-third locals k (nodes q) (nodes a) (nodes_maybe o) l)) nothing refl)) None;
         }
     works (core.loop how q e s) m b c ok is =
@@ -375,10 +375,10 @@ module _ (body : Body) (locals : List SourceType) (keeps : Kept body.scope local
     works s m b c ok is = never ok
 
     work-or : (o : MaybeCore) (m : ℕ) (b c : Bool) → is_statement_or m o ≡ true → fits_maybe body b c o ≡ true → MaybeWorks b c o
-    work-or absent m b c ok is = record { complete = refl; code = λ f st k l. fine-none locals }
+    work-or absent m b c ok is = record { complete = refl; there = refl; code = λ f st k l. fine-none locals }
     work-or (given s) m b c ok is =
         let one = works s m b c ok is in
-        record { complete = one.complete; code = λ f st k l. fine-then locals (statement f s k) (finished (declared s)) (one.code f st k l) (fine-finished locals (declared s) one.there) }
+        record { complete = one.complete; there = one.there; code = one.code }
 
     work-all : (es : Cores) (m : ℕ) (b c : Bool) → are_statements m es ≡ true → all_fit body b c es ≡ true → AllWork b c es
     work-all none m b c ok is = record { complete = refl; there = refl; code = λ f st k l. fine-none locals }

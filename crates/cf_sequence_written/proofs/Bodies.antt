@@ -15,7 +15,7 @@ use Rattle.cf_sequence.specs.Expressions.{finished}
 use Rattle.cf_sequence_expr.specs.declared.writing.Writing.{Writing}
 use Rattle.cf_sequence_stmt.specs.declared.body.Body.{Body}
 use Rattle.cf_sequence_stmt.specs.declared.body.Open.{Open}
-use Rattle.cf_sequence_stmt.specs.Bodies.{on, opened, ended, left_to, closed_to, stated, begun, turned, switched, with_code}
+use Rattle.cf_sequence_stmt.specs.Bodies.{on, opened, ended, left_to, closed_to, stated, begun, turned, switched, with_code, set_aside}
 use Rattle.cf_sequence_written.proofs.Opens.{finished-more, take-here, drop-here, ends, ends-more, no-opens}
 use Rattle.cf_sequence_written.proofs.Views.{of-Loop, of-Switch}
 use Rattle.cf_sequence_written.proofs.Followed.{followed, followed-end, followed-last, next-emptied, code-emptied}
@@ -141,6 +141,22 @@ module _ (tables : Tables) (signature : MemberRef → Name) where
   goes-alone {g = g} b {c = c} p =
       sym (followed-end tables signature (Writing.code c.writing)) ∙ p.code nothing
       ∙ ap (λ ss. followed tables signature ss (g (Writing.next (Body.writing (begun b))) nothing)) (code-begun b) ∙ ap (λ k. g k nothing) (next-begun b)
+
+  -- with locals put aside
+  pub scope-aside : (mark : ℕ) (b : Body) → Body.scope (set_aside mark b) ≡ take mark b.scope
+  unfolding set_aside
+  scope-aside mark b = refl
+
+  pub goes-alone-aside : {g : ℕ → Plains → Plains} {m : ℕ} {ls : List Local} (mark : ℕ) (b : Body) {c : Body} → Goes g m ls (set_aside mark (begun b)) c
+      → plains_of tables signature (Writing.code c.writing) ≡ g (Writing.next b.writing) nothing
+  unfolding set_aside
+  goes-alone-aside {g = g} mark b {c = c} p =
+      sym (followed-end tables signature (Writing.code c.writing)) ∙ p.code nothing
+      ∙ ap (λ ss. followed tables signature ss (g (Writing.next (Body.writing (begun b))) nothing)) (code-begun b) ∙ ap (λ k. g k nothing) (next-begun b)
+
+  pub next-aside : (mark : ℕ) (b : Body) → Writing.next (Body.writing (set_aside mark (begun b))) ≡ Writing.next b.writing
+  unfolding set_aside
+  next-aside mark b = next-begun b
 
   -- a loop, and a switch, behind these statements: what was written last is within
   pub code-turned : (before next : List Plain) (b : Body) (rest : Plains)

@@ -15,7 +15,7 @@ use Rattle.cf_core.specs.FromUnit.{function_of}
 use Rattle.cf_plain.specs.Plain.{Plains, nothing}
 use Rattle.cf_plain.specs.View as plain
 use Rattle.cf_plain.specs.View.{plains_of}
-use Rattle.cf_sequence.specs.Built.{is_row, is_statement, declares_last, is_body}
+use Rattle.cf_sequence.specs.Built.{is_row, is_statement, arms_fit, is_body}
 use Rattle.cf_sequence.specs.Made.{Local, width, numbered, declared}
 use Rattle.cf_sequence.specs.Expressions.{finished}
 use Rattle.cf_sequence.specs.Statements.{Inside, statement}
@@ -60,12 +60,12 @@ module _ (tables : Tables) where
     params-are = parameters-taking (map (type_of tables) f.params) (type_of tables f.result) false
 
     scalar : is_class (result F.type) ≡ false
-    scalar = is-false (is_class (result F.type)) (both (not (is_class (result F.type))) (is_statement (length (parameters F.type)) F.body && declares_last true F.body) built).0
+    scalar = is-false (is_class (result F.type)) (both (not (is_class (result F.type))) (is_statement (length (parameters F.type)) F.body && arms_fit (length (parameters F.type) + length F.locals) F.body) built).0
 
     is-stated : is_statement (length (parameters F.type)) F.body ≡ true
     is-stated =
-        (both (is_statement (length (parameters F.type)) F.body) (declares_last true F.body)
-        (both (not (is_class (result F.type))) (is_statement (length (parameters F.type)) F.body && declares_last true F.body) built).1).0
+        (both (is_statement (length (parameters F.type)) F.body) (arms_fit (length (parameters F.type) + length F.locals) F.body)
+        (both (not (is_class (result F.type))) (is_statement (length (parameters F.type)) F.body && arms_fit (length (parameters F.type) + length F.locals) F.body) built).1).0
 
     abbrev start : Body
     start = begun alloc f

@@ -1,5 +1,5 @@
 -- The numbers of types in what labels of a switch pass are there in the tables.
-use Rattle.std.proofs.Common.{◌≡◌, ℕ, Bool, true, List, [], ◌∷◌, ◌++◌, map, Option, Some, None, refl, ap, sym, subst, ◌∙◌}
+use Rattle.std.proofs.Common.{◌≡◌, ℕ, Bool, true, ◌&&◌, List, [], ◌∷◌, ◌++◌, map, Option, Some, None, refl, ap, sym, subst, ◌∙◌}
 use Rattle.std.proofs.lemmas.List.Folds.{list_all-append}
 use Rattle.cf_base.proofs.Tests.{both}
 use Rattle.cf_core.specs.declared.node.Core.{Core as Node, roll-Core, ind-Core}
@@ -83,6 +83,17 @@ module _ (tables : Tables) where
       let held = Step.held (step tables.types e.0) in
       record { label = no-label; opens = λ xs types. one-open i t parts.0 (with_held held xs) (with-open held (held-known tables e.0 parts.1) xs types) }
   layer (Core-F.Sequence at es) ok = record { label = no-label; opens = all-open es ok }
+  layer (Core-F.If at c a None) ok =
+      let parts = both (are_known tables c.0 && are_known tables a.0) true ok in
+      let two = both (are_known tables c.0) (are_known tables a.0) parts.0 in
+      record { label = no-label; opens = KnownPass.opens (a.1 two.1) }
+  layer (Core-F.If at c a (Some o)) ok =
+      let parts = both (are_known tables c.0 && are_known tables a.0) (are_known tables o.0) ok in
+      let two = both (are_known tables c.0) (are_known tables a.0) parts.0 in
+      record {
+        label = no-label;
+        opens = λ xs types. KnownPass.opens (o.1 parts.1) (Step.opens (step tables.types a.0) xs) (KnownPass.opens (a.1 two.1) xs types);
+      }
   layer (Core-F.Case at z) ok = record {
     label = λ l e.
         one-label (code.Case z) l e (ap (is_known tables) (sym (rolls-Case z)) ∙ fold-roll-Plain Bool Bool (plain.known_step tables) (plain.known_part tables) (Plain-F.Case z));

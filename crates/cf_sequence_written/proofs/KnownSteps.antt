@@ -1,5 +1,5 @@
 -- The numbers of types in what is written for the kinds of statements are there in the tables.
-use Rattle.std.proofs.Common.{◌≡◌, ℕ, zero, suc, Bool, true, false, ◌&&◌, List, [], ◌∷◌, map, length, take, drop, Option, Some, None, if◌then◌else◌, refl, ap, sym, ◌∙◌}
+use Rattle.std.proofs.Common.{◌≡◌, ℕ, zero, suc, Bool, true, false, ◌&&◌, List, [], ◌∷◌, ◌++◌, map, length, take, drop, Option, Some, None, if◌then◌else◌, refl, ap, sym, ◌∙◌}
 use Rattle.std.specs.Prelude.{pos}
 use Rattle.std.specs.List.{list_all}
 use Rattle.std.proofs.lemmas.List.Folds.{list_all-append}
@@ -24,8 +24,8 @@ use Rattle.cf_sequence_expr.specs.Pieces.{Piece, found_in}
 use Rattle.cf_sequence_stmt.specs.declared.body.Body.{Body}
 use Rattle.cf_sequence_stmt.specs.declared.body.Open.{Open}
 use Rattle.cf_sequence_stmt.specs.declared.body.Ways.{Ways}
-use Rattle.cf_sequence_stmt.specs.Bodies.{Initial, does_nothing, fills, lists, gives, on, behind_flags, cleared_one, cleared, over_one, over, full_at, entered, left_behind, opened, ended, left_to, closed_to, full, given, tested, started, held_too, declared, stated, begun, chosen, turned, switched, with_code, there, passed_at}
-use Rattle.cf_sequence_stmt.specs.Steps.{Step, in_order, or_nothing, arm, inside_loop, inside_switch, held, stepped, turn, repeated, loop, labelled, passing, passes, selected, selection, choice, returned}
+use Rattle.cf_sequence_stmt.specs.Bodies.{Initial, does_nothing, fills, lists, gives, on, behind_flags, cleared_one, cleared, over_one, over, full_at, entered, left_behind, opened, ended, left_to, closed_to, full, given, tested, started, held_too, declared, stated, begun, chosen, turned, switched, with_code, there, passed_at, set_aside, taken_back}
+use Rattle.cf_sequence_stmt.specs.Steps.{Step, in_order, or_nothing, inside_loop, inside_switch, held, stepped, turn, repeated, loop, labelled, passing, passes, selected, selection, choice, returned}
 use Rattle.cf_sequence_written.proofs.Held.{KnownHeld}
 use Rattle.cf_sequence_written.proofs.Known.{is_known, known-Act, are_typed, Typed, KnownPiece, Keeps, keeps-none, keeps-then, keeps-put, keeps-set, keeps-act, keeps-used, known-last, known-If, all-mapped, emptied-known, branched-known, and-true}
 
@@ -64,6 +64,20 @@ module _ (tables : Tables) where
   unfolding closed_to
   known-closed mark b ok =
       let left = known-left mark b ok in record { code = left.code; scope = taken mark (Body.scope (left_to mark b)) left.scope }
+
+  known-set_aside : (mark : ℕ) (b : Body) → KnownBody b → KnownBody (set_aside mark b)
+  unfolding set_aside
+  known-set_aside mark b ok = record { code = ok.code; scope = taken mark b.scope ok.scope }
+
+  both-typed : (xs ys : List Open) → have_types xs ≡ true → have_types ys ≡ true → have_types (xs ++ ys) ≡ true
+  both-typed xs ys one two = list_all-append (λ (x : Open). has_type tables x.ty) xs ys ∙ and-true (have_types xs) _ one two
+
+  known-taken_back : (mark : ℕ) (xs : List Open) (b : Body) → have_types xs ≡ true → KnownBody b → KnownBody (taken_back mark xs b)
+  unfolding taken_back
+  known-taken_back mark xs b types ok = record {
+    code = ok.code;
+    scope = both-typed (take mark b.scope ++ xs) (drop mark b.scope) (both-typed (take mark b.scope) xs (taken mark b.scope ok.scope) types) (dropped mark b.scope ok.scope);
+  }
 
   known-opened : (i t : ℕ) (b : Body) → has_type tables t ≡ true → KnownBody b → KnownBody (opened i t b)
   unfolding opened
@@ -233,18 +247,19 @@ module _ (tables : Tables) where
       let second = known-stepped (begun (held o (begun b))) r (known-begun (held o (begun b)) first) in
       known-repeated how (Writing.code b.writing) _ _ s _ ok.code first.code second.code k (known-begun (stepped p (begun (held o (begun b)))) second)
 
-  known-arm : (s : Step) (ways : Ways) (b : Body) → KnownStep s → KnownBody b → KnownBody (arm s ways b)
-  known-arm s ways b k ok = known-closed (length b.scope) (s.act ways b) (k.acts ways b ok)
-
   known-or : {o : Option Step} (ways : Ways) (b : Body) → MaybeKnown o → KnownBody b → KnownBody (or_nothing o ways b)
   known-or ways b no_step ok = ok
-  known-or ways b (one_step s k) ok = known-arm s ways b k ok
+  known-or ways b (one_step s k) ok = k.acts ways b ok
 
   pub known-choice : {o : Option Step} (c a : Step) (ways : Ways) (b : Body) → KnownStep c → KnownStep a → MaybeKnown o → KnownBody b → KnownBody (choice c a o ways b)
   known-choice c a ways b q k o ok =
       let t = known-tested c.piece b q.piece ok in
-      let first = known-arm a ways (begun (tested c.piece b)) k (known-begun (tested c.piece b) t) in
-      known-chosen (behind_flags 0 c.piece) _ _ _ t.code first.code (known-or ways _ o (known-begun (arm a ways (begun (tested c.piece b))) first))
+      let first = k.acts ways (begun (tested c.piece b)) (known-begun (tested c.piece b) t) in
+      let other = begun (a.act ways (begun (tested c.piece b))) in
+      let again = known-begun (a.act ways (begun (tested c.piece b))) first in
+      let mark = length (Body.scope (tested c.piece b)) in
+      known-taken_back mark (drop mark (Body.scope other)) _ (dropped mark (Body.scope other) again.scope)
+      (known-chosen (behind_flags 0 c.piece) _ _ _ t.code first.code (known-or ways _ o (known-set_aside mark other again)))
 
   -- Labels of a switch, and what they pass.
 

@@ -25,7 +25,6 @@ pub mod Constants
 pub mod Objects
 pub mod Units
 pub mod Meaning
-pub mod Lasts
 pub mod Tested
 pub mod TestedFiles
 pub mod Known

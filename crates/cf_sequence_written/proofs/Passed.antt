@@ -3,6 +3,7 @@ use Rattle.std.proofs.Common.{◌≡◌, ℕ, suc, Bool, true, false, ◌&&◌, 
 use Rattle.std.specs.Prelude.{if◌then◌else◌}
 use Rattle.std.proofs.lemmas.List.{reverse-append}
 use Rattle.std.proofs.lemmas.Bool.Decides.{nat_tests}
+use Rattle.cf_base.proofs.Tests.{both}
 use Rattle.cf_classes.specs.declared.class.MemberRef.{MemberRef}
 use Rattle.cf_core.specs.declared.node.Core.{Core as Node, roll-Core, ind-Core}
 use Rattle.cf_core.specs.declared.node.Core.TheOpen.{Core-F}
@@ -10,7 +11,7 @@ use Rattle.cf_core.specs.declared.node.Core.TheFolds.{fold-roll-Core, map-Core}
 use Rattle.cf_core.specs.declared.node.PartStart.{PartStart, fold-PartStart}
 use Rattle.cf_core.specs.Types.{Name}
 use Rattle.cf_core.specs.Core as core
-use Rattle.cf_core.specs.Core.{Core, Cores}
+use Rattle.cf_core.specs.Core.{Core, Cores, absent, given}
 use Rattle.cf_core.specs.Valid.{is_label, has_label}
 use Rattle.cf_core.specs.FromTypes.{Tables, type_of}
 use Rattle.cf_core.specs.View.{Started, core_step, started_step, core_of, listed}
@@ -20,7 +21,7 @@ use Rattle.cf_plain.specs.declared.statement.Plain.TheVariants as code
 use Rattle.cf_plain.specs.Plain.{Plains, nothing, more, leave}
 use Rattle.cf_plain.specs.Plain as plain
 use Rattle.cf_plain.specs.View.{plain_of}
-use Rattle.cf_sequence.specs.Built.{is_statement}
+use Rattle.cf_sequence.specs.Built.{is_value, is_statement, is_statement_or, next_local}
 use Rattle.cf_sequence.specs.Made.{Local, declared, declared_all}
 use Rattle.cf_sequence.specs.Statements.{made, passing, passes_local, passed}
 use Rattle.cf_sequence.proofs.Calling.{never}
@@ -37,7 +38,7 @@ use Rattle.cf_sequence_written.proofs.Opens.{ends, ends-more, no-opens}
 use Rattle.cf_sequence_written.proofs.Held.{held_list, held-behind, held-is}
 use Rattle.cf_sequence_written.proofs.Puts.{Still, still-act, still-then}
 use Rattle.cf_sequence_written.proofs.Bodies.{Goes, goes-none, goes-as, goes-rest, goes-still, goes-stated, goes-alone, next-begun, scope-begun, same-scope, code-switched, next-switched, scope-switched, code-with_code, next-with_code, scope-with_code}
-use Rattle.cf_sequence_written.proofs.Statements.{IsStated, AllStated, stated-all}
+use Rattle.cf_sequence_written.proofs.Statements.{IsStated, AllStated, stated-statement, stated-all}
 
 -- tests of the labels so far
 
@@ -108,6 +109,13 @@ module _ (tables : Tables) (signature : MemberRef → Name) where
   pub data PassesAll : List Step → Cores → Type 0 where
     none_pass : PassesAll [] core.none
     more_pass : (s : Step) (c : Core) (ss : List Step) (cs : Cores) → PassesAs s c → PassesAll ss cs → PassesAll (s ∷ ss) (core.more c cs)
+
+  both-add : {f g : List Open → List Open} {ls ms : List Local} → Adds f ls → Adds g ms → Adds (λ xs. g (f xs)) (ms ++ ls)
+  both-add {f} {g} {ls} {ms} first second = record {
+    new = first.new ++ second.new;
+    adds = λ xs. ap g (first.adds xs) ∙ second.adds (xs ++ first.new) ∙ append_assoc xs first.new second.new;
+    ends = ends-more tables first.new second.new ∙ ap (λ l. l ++ ends tables first.new) second.ends ∙ ap (λ l. ms ++ l) first.ends;
+  }
 
   all-add : {ss : List Step} {cs : Cores} → PassesAll ss cs → AllStated cs → Adds (all_open ss) (declared_all cs)
   all-add none_pass ok = record { new = []; adds = λ xs. sym (append-nil xs); ends = refl }
@@ -290,6 +298,9 @@ module _ (tables : Tables) (signature : MemberRef → Name) where
   row [] = none_pass
   row (e ∷ es) = more_pass (step tables.types e.0) (of_node e.0) (map (step tables.types) (map node_of es)) (cores_of es) e.1 (row es)
 
+  abbrev of : Child → Core
+  of c = of_node c.0
+
   none-added : Adds (λ xs. xs) []
   none-added = record { new = []; adds = λ xs. sym (append-nil xs); ends = refl }
 
@@ -310,6 +321,20 @@ module _ (tables : Tables) (signature : MemberRef → Name) where
         };
   }
   layer (Core-F.Sequence at es) = record { marks = no_mark _ refl; opens = λ ok. all-add (row es) (stated-all ok.below (cores_of es) ok.stated) }
+  layer (Core-F.If at q a None) = record {
+    marks = no_mark _ refl;
+    opens = λ ok.
+        let parts = both (is_value (of q)) (is_statement ok.below (of a) && is_statement_or (next_local ok.below (of a)) absent) ok.stated in
+        let sides = both (is_statement ok.below (of a)) (is_statement_or (next_local ok.below (of a)) absent) parts.1 in
+        a.1.opens (stated-statement ok.below (of a) sides.0);
+  }
+  layer (Core-F.If at q a (Some o)) = record {
+    marks = no_mark _ refl;
+    opens = λ ok.
+        let parts = both (is_value (of q)) (is_statement ok.below (of a) && is_statement_or (next_local ok.below (of a)) (given (of o))) ok.stated in
+        let sides = both (is_statement ok.below (of a)) (is_statement_or (next_local ok.below (of a)) (given (of o))) parts.1 in
+        both-add (a.1.opens (stated-statement ok.below (of a) sides.0)) (o.1.opens (stated-statement (next_local ok.below (of a)) (of o) sides.1));
+  }
   layer (Core-F.Case at z) = record { marks = a_mark (code.Case z) (core.case_label z) (a_case z refl) (of-Case tables signature z); opens = λ ok. none-added }
   layer (Core-F.Default at) = record { marks = a_mark code.Default core.default_label (the_default refl) (of-Default tables signature); opens = λ ok. none-added }
   layer y = record { marks = no_mark _ refl; opens = λ ok. none-added }

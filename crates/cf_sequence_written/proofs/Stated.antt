@@ -15,7 +15,7 @@ use Rattle.cf_core.specs.FromTypes.{Tables, type_of}
 use Rattle.cf_core.specs.View.{Started, core_step, started_step, core_of, listed}
 use Rattle.cf_plain.specs.declared.statement.Plain.TheVariants as code
 use Rattle.cf_plain.specs.Plain as plain
-use Rattle.cf_sequence.specs.Built.{is_value, is_start, is_filling, is_row, is_list, is_element, is_held, is_bound, is_statement, is_statement_or, are_cases}
+use Rattle.cf_sequence.specs.Built.{is_value, is_start, is_filling, is_row, is_list, is_element, is_held, is_bound, is_statement, is_statement_or, are_cases, next_local}
 use Rattle.cf_sequence.specs.Made.{width}
 use Rattle.cf_sequence.specs.Expressions.{builds}
 use Rattle.cf_sequence.proofs.Calling.{never}
@@ -197,18 +197,18 @@ module _ (tables : Tables) (signature : MemberRef → Name) (params : (t : ℕ) 
     initial = (refl, refl, λ T. refl);
     acts = record {
       acts = λ ok f ways b there.
-          let parts = both (is_value (of q)) (is_statement ok.below (of a) && is_statement_or ok.below absent) ok.stated in
-          let sides = both (is_statement ok.below (of a)) (is_statement_or ok.below absent) parts.1 in
-          goes-choice tables signature (step_of q) (operand_value q parts.0) a.1.acts (acts-absent tables signature) ok.below sides.0 sides.1 f ways b there;
+          let parts = both (is_value (of q)) (is_statement ok.below (of a) && is_statement_or (next_local ok.below (of a)) absent) ok.stated in
+          let sides = both (is_statement ok.below (of a)) (is_statement_or (next_local ok.below (of a)) absent) parts.1 in
+          goes-choice tables signature (step_of q) (operand_value q parts.0) a.1.acts (acts-absent tables signature) ok.below (next_local ok.below (of a)) sides.0 sides.1 f ways b there;
     };
   }
   layer (Core-F.If at q a (Some o)) = record {
     initial = (refl, refl, λ T. refl);
     acts = record {
       acts = λ ok f ways b there.
-          let parts = both (is_value (of q)) (is_statement ok.below (of a) && is_statement_or ok.below (given (of o))) ok.stated in
-          let sides = both (is_statement ok.below (of a)) (is_statement_or ok.below (given (of o))) parts.1 in
-          goes-choice tables signature (step_of q) (operand_value q parts.0) a.1.acts (acts-given tables signature o.1.acts) ok.below sides.0 sides.1 f ways b there;
+          let parts = both (is_value (of q)) (is_statement ok.below (of a) && is_statement_or (next_local ok.below (of a)) (given (of o))) ok.stated in
+          let sides = both (is_statement ok.below (of a)) (is_statement_or (next_local ok.below (of a)) (given (of o))) parts.1 in
+          goes-choice tables signature (step_of q) (operand_value q parts.0) a.1.acts (acts-given tables signature o.1.acts) ok.below (next_local ok.below (of a)) sides.0 sides.1 f ways b there;
     };
   }
   layer (Core-F.Loop at how None None s) = record {

@@ -1,5 +1,5 @@
 -- A file is built where the test finds no construct that is not.
-use Rattle.std.proofs.Common.{◌≡◌, ℕ, Bool, true, false, not, ◌&&◌, ◌||◌, List, [], ◌∷◌, map, Option, Some, None, option_map, refl, ap, sym, subst, ◌∙◌}
+use Rattle.std.proofs.Common.{◌≡◌, ℕ, Bool, true, false, not, ◌&&◌, ◌||◌, List, [], ◌∷◌, ◌++◌, map, Option, Some, None, option_map, refl, ap, sym, subst, ◌∙◌}
 use Rattle.std.specs.Prelude.{suc, nat_le, nat_lt, if◌then◌else◌}
 use Rattle.cf_core.specs.Places.{is_reference}
 use Rattle.std.specs.Option.{option_or}
@@ -12,13 +12,13 @@ use Rattle.cf_core.specs.declared.node.Holder.TheVariants as holder
 use Rattle.cf_core.specs.Types.{Name, SourceType, array, const, takes, result, is_class, plain, element}
 use Rattle.cf_core.specs.Core.{Core, Cores, MaybeCore}
 use Rattle.cf_core.specs.Joined.{is_nothing}
-use Rattle.cf_core.specs.Valid.{is_label}
+use Rattle.cf_core.specs.Valid.{is_label, has_label}
 use Rattle.cf_core.specs.FromTypes.{Tables, type_of}
 use Rattle.cf_core.specs.View.{Started, core_step, started_step, core_of, listed, maybe}
-use Rattle.cf_sequence.specs.Built.{is_value, is_start, is_filling, is_initial, is_row, is_list, is_element, are_elements, is_held, behind_declared, is_condition, is_statement, is_statement_or, are_values, are_arguments, are_statements, are_cases, declares_here, any_declares, next_local, next_locals, is_chain}
-use Rattle.cf_sequence_built.specs.Unbuilt.{Temporary, Test, test, test_step, start, initial, by_temporary, by_list, element_start, each_element, filler, in_list, local, behind_both, given, each_value, some_values, each_statement, statement_or, case, crowded, crowded_cases, each_case, next_of_all, called, is_function_type, is_called}
+use Rattle.cf_sequence.specs.Built.{is_value, is_start, is_filling, is_initial, is_row, is_list, is_element, are_elements, is_held, behind_declared, is_condition, is_statement, is_statement_or, are_values, are_arguments, are_statements, are_cases, is_none, arms_declare, any_arms_declare, arms_fit, or_arms_fit, all_arms_fit, none_passed, next_local, next_local_or, next_locals, is_chain}
+use Rattle.cf_sequence.specs.Made.{declared, declared_maybe, declared_all}
+use Rattle.cf_sequence_built.specs.Unbuilt.{Temporary, Test, test, test_step, start, initial, by_temporary, by_list, element_start, each_element, filler, in_list, local, behind_both, given, each_value, some_values, each_statement, statement_or, case, passed, each_unfit, or_unfit, each_case, next_or, next_of_all, called, is_function_type, is_called}
 use Rattle.cf_sequence_built.specs.Unbuilt as unbuilt
-use Rattle.cf_sequence_written.proofs.Lasts.{arms_declare, or_arms_declare, any_arms_declare, is_free, or_free, are_free, cases_free}
 
 -- whether nothing was found
 abbrev pub clear : Option ℕ → Bool
@@ -52,6 +52,32 @@ both-tests at true true v w e = e
 both-tests at true false v w e = refl
 both-tests at false b v w e = refl
 
+or-false : (b : Bool) → b ≡ (b || false)
+or-false true = refl
+or-false false = refl
+
+-- of two lists one has something
+some-joined : {A : Type 0} (xs ys : List A) → not (is_none (xs ++ ys)) ≡ (not (is_none ys) || not (is_none xs))
+some-joined [] ys = or-false (not (is_none ys))
+some-joined (x ∷ xs) ys = or-true (not (is_none ys))
+  where
+    or-true : (b : Bool) → true ≡ (b || true)
+    or-true true = refl
+    or-true false = refl
+
+and-none : (b : Bool) → b && false ≡ false
+and-none true = refl
+and-none false = refl
+
+-- one statement of a switch: `b` tells of one that declares in an arm before it
+one-passed : (at : ℕ) (b l a more none : Bool) (v : Option ℕ) → clear v ≡ not ((b || a) && more) && none
+    → clear (if b && l then Some at else v) ≡ not (b && (l || more)) && (not (a && more) && none)
+one-passed at true true a more none v e = refl
+one-passed at true false a true none v e = e
+one-passed at true false true false none v e = e
+one-passed at true false false false none v e = e
+one-passed at false l a more none v e = e
+
 pub chain-is : (t : SourceType) → is_function_type t ≡ is_chain t
 chain-is (takes p t) = chain-is t
 chain-is t = refl
@@ -65,10 +91,6 @@ Binds (Some x) c = ((i : ℕ) → is_held i c ≡ nat_lt i x.number && clear x.v
 abbrev pub Lists : Option (SourceType → Option ℕ) → Core → Type 0
 Lists None c = (t : SourceType) → is_list t c ≡ false
 Lists (Some f) c = ((t : SourceType) → clear (f t) ≡ is_list t c) × (is_initial c ≡ false)
-
-or-false : (b : Bool) → b ≡ (b || false)
-or-false true = refl
-or-false false = refl
 
 local-by : (o : Option Temporary) (c : Core) → Binds o c → (t : SourceType) (other : Option ℕ) → clear other ≡ is_element t c → (at i : ℕ)
     → clear (by_temporary o at i other) ≡ (is_element t c || is_held i c)
@@ -97,9 +119,9 @@ module _ (tables : Tables) (signature : MemberRef → Name) where
     pub next : (m : ℕ) → t.next m ≡ next_local m c
     pub blank : t.is_blank ≡ is_nothing c
     pub filling : t.is_filling ≡ is_filling c
-    pub declares : t.declares ≡ declares_here c
+    pub declares : t.declares ≡ not (is_none (declared c))
     pub arms : t.arms ≡ arms_declare c
-    pub crowd : clear t.crowd ≡ is_free c
+    pub unfit : (n : ℕ) → clear (t.unfit n) ≡ arms_fit n c
     pub label : t.is_label ≡ is_label c
     pub temporary : Binds t.temporary c
     pub list : Lists t.list c
@@ -192,19 +214,41 @@ module _ (tables : Tables) (signature : MemberRef → Name) where
   statement_or-is m None = refl
   statement_or-is m (Some s) = s.1.statement m
 
-  arm-is : (s : Child) → unbuilt.arm (test_of s) ≡ (declares_here (of s) || arms_declare (of s))
-  arm-is s = ap (λ b. b || (test_of s).arms) s.1.declares ∙ ap (λ b. declares_here (of s) || b) s.1.arms
+  next_or-is : (m : ℕ) (o : Option Child) → next_or m (maybe_test o) ≡ next_local_or m (maybe_core o)
+  next_or-is m None = refl
+  next_or-is m (Some s) = s.1.next m
 
-  or_arms-are : (o : Option Child) → unbuilt.or_arms (maybe_test o) ≡ or_arms_declare (maybe_core o)
-  or_arms-are None = refl
-  or_arms-are (Some s) = arm-is s
+  -- the arms of an `if`, the second one where the locals of the first are there
 
-  arms-are : (a : Child) (o : Option Child) → (unbuilt.arm (test_of a) || unbuilt.or_arms (maybe_test o)) ≡ ((declares_here (of a) || arms_declare (of a)) || or_arms_declare (maybe_core o))
-  arms-are a o = ap (λ b. b || unbuilt.or_arms (maybe_test o)) (arm-is a) ∙ ap (λ b. (declares_here (of a) || arms_declare (of a)) || b) (or_arms-are o)
+  arms-next : (m : ℕ) (a : Child) (o : Option Child) → next_or ((test_of a).next m) (maybe_test o) ≡ next_local_or (next_local m (of a)) (maybe_core o)
+  arms-next m a o = ap (λ k. next_or k (maybe_test o)) (a.1.next m) ∙ next_or-is (next_local m (of a)) o
 
-  or_crowd-is : (o : Option Child) → clear (unbuilt.or_crowd (maybe_test o)) ≡ or_free (maybe_core o)
-  or_crowd-is None = refl
-  or_crowd-is (Some s) = s.1.crowd
+  arms-stated : (m : ℕ) (a : Child) (o : Option Child) → clear (option_or ((test_of a).statement m) (statement_or ((test_of a).next m) (maybe_test o)))
+      ≡ is_statement m (of a) && is_statement_or (next_local m (of a)) (maybe_core o)
+  arms-stated m a o =
+      and-is ((test_of a).statement m) (statement_or ((test_of a).next m) (maybe_test o)) _ _ (a.1.statement m)
+      (ap (λ k. clear (statement_or k (maybe_test o))) (a.1.next m) ∙ statement_or-is (next_local m (of a)) o)
+
+  or_declares-is : (o : Option Child) → unbuilt.or_declares (maybe_test o) ≡ not (is_none (declared_maybe (maybe_core o)))
+  or_declares-is None = refl
+  or_declares-is (Some s) = s.1.declares
+
+  arms-declare : (a : Child) (o : Option Child) → ((test_of a).declares || unbuilt.or_declares (maybe_test o)) ≡ not (is_none (declared_maybe (maybe_core o) ++ declared (of a)))
+  arms-declare a o =
+      ap (λ b. b || unbuilt.or_declares (maybe_test o)) a.1.declares ∙ ap (λ b. not (is_none (declared (of a))) || b) (or_declares-is o)
+      ∙ sym (some-joined (declared_maybe (maybe_core o)) (declared (of a)))
+
+  or_unfit-is : (n : ℕ) (o : Option Child) → clear (or_unfit n (maybe_test o)) ≡ or_arms_fit n (maybe_core o)
+  or_unfit-is n None = refl
+  or_unfit-is n (Some s) = s.1.unfit n
+
+  arms-fit : (at n : ℕ) (a : Child) (o : Option Child)
+      → clear (if nat_le (next_or ((test_of a).next 0) (maybe_test o)) n then option_or ((test_of a).unfit n) (or_unfit n (maybe_test o)) else Some at)
+      ≡ nat_le (next_local_or (next_local 0 (of a)) (maybe_core o)) n && (arms_fit n (of a) && or_arms_fit n (maybe_core o))
+  arms-fit at n a o =
+      where-true at (nat_le (next_or ((test_of a).next 0) (maybe_test o)) n) (option_or ((test_of a).unfit n) (or_unfit n (maybe_test o))) _
+      (and-is ((test_of a).unfit n) (or_unfit n (maybe_test o)) _ _ (a.1.unfit n) (or_unfit-is n o))
+      ∙ ap (λ k. nat_le k n && (arms_fit n (of a) && or_arms_fit n (maybe_core o))) (arms-next 0 a o)
 
   given-is : (o : Option Child) → clear (given (maybe_test o)) ≡ is_condition (maybe_core o)
   given-is None = refl
@@ -237,27 +281,31 @@ module _ (tables : Tables) (signature : MemberRef → Name) where
   nexts m [] = refl
   nexts m (s ∷ ss) = ap (λ k. next_of_all k (tests_of ss)) (s.1.next m) ∙ nexts (next_local m (of s)) ss
 
-  in_declares : (es : List Child) → unbuilt.any_declares (tests_of es) ≡ any_declares (cores_of es)
+  in_declares : (es : List Child) → unbuilt.any_declares (tests_of es) ≡ not (is_none (declared_all (cores_of es)))
   in_declares [] = refl
-  in_declares (s ∷ ss) = ap (λ b. b || unbuilt.any_declares (tests_of ss)) s.1.declares ∙ ap (λ b. declares_here (of s) || b) (in_declares ss)
+  in_declares (s ∷ ss) =
+      ap (λ b. b || unbuilt.any_declares (tests_of ss)) s.1.declares ∙ ap (λ b. not (is_none (declared (of s))) || b) (in_declares ss)
+      ∙ sym (some-joined (declared_all (cores_of ss)) (declared (of s)))
 
   in_arms : (es : List Child) → unbuilt.any_arms (tests_of es) ≡ any_arms_declare (cores_of es)
   in_arms [] = refl
   in_arms (s ∷ ss) = ap (λ b. b || unbuilt.any_arms (tests_of ss)) s.1.arms ∙ ap (λ b. arms_declare (of s) || b) (in_arms ss)
 
-  in_crowd : (at : ℕ) (follows : Bool) (es : List Child) → clear (crowded at follows (tests_of es)) ≡ are_free follows (cores_of es)
-  in_crowd at follows [] = refl
-  in_crowd at follows (s ∷ ss) =
-      where-false at follows (option_or (test_of s).crowd (crowded at (test_of s).arms (tests_of ss))) _
-      (and-is (test_of s).crowd (crowded at (test_of s).arms (tests_of ss)) _ _ s.1.crowd (in_crowd at (test_of s).arms ss))
-      ∙ ap (λ b. not follows && (is_free (of s) && are_free b (cores_of ss))) s.1.arms
+  in_unfit : (n : ℕ) (es : List Child) → clear (each_unfit n (tests_of es)) ≡ all_arms_fit n (cores_of es)
+  in_unfit n [] = refl
+  in_unfit n (s ∷ ss) = and-is ((test_of s).unfit n) (each_unfit n (tests_of ss)) _ _ (s.1.unfit n) (in_unfit n ss)
 
-  in_crowded_cases : (at : ℕ) (es : List Child) → clear (crowded_cases at (tests_of es)) ≡ cases_free (cores_of es)
-  in_crowded_cases at [] = refl
-  in_crowded_cases at (s ∷ ss) =
-      where-false at (test_of s).arms (option_or (test_of s).crowd (crowded_cases at (tests_of ss))) _
-      (and-is (test_of s).crowd (crowded_cases at (tests_of ss)) _ _ s.1.crowd (in_crowded_cases at ss))
-      ∙ ap (λ b. not b && (is_free (of s) && cases_free (cores_of ss))) s.1.arms
+  in_passed : (at : ℕ) (b : Bool) (es : List Child) → clear (passed at b (tests_of es)) ≡ not (b && has_label (cores_of es)) && none_passed (cores_of es)
+  in_passed at b [] = ap (λ c. not c && true) (sym (and-none b))
+  in_passed at b (s ∷ ss) =
+      let more = cores_of ss in
+      one-passed at b (test_of s).is_label (test_of s).arms (has_label more) (none_passed more) (passed at (b || (test_of s).arms) (tests_of ss))
+      (in_passed at (b || (test_of s).arms) ss)
+      ∙ ap (λ l. not (b && (l || has_label more)) && (not ((test_of s).arms && has_label more) && none_passed more)) s.1.label
+      ∙ ap (λ a. not (b && (is_label (of s) || has_label more)) && (not (a && has_label more) && none_passed more)) s.1.arms
+
+  in_switch : (at n : ℕ) (es : List Child) → clear (option_or (passed at false (tests_of es)) (each_unfit n (tests_of es))) ≡ none_passed (cores_of es) && all_arms_fit n (cores_of es)
+  in_switch at n es = and-is (passed at false (tests_of es)) (each_unfit n (tests_of es)) _ _ (in_passed at false es) (in_unfit n es)
 
   in_cases : (m : ℕ) (es : List Child) → clear (each_case m (tests_of es)) ≡ are_cases m (cores_of es)
   in_cases m [] = refl
@@ -280,54 +328,54 @@ module _ (tables : Tables) (signature : MemberRef → Name) where
   IsLayer x = Tests (test_step tables (map-Core _ _ _ _ (test tables) part_test x)) (core_step tables signature (map-Core _ _ _ _ of_node started_of x))
 
   layer : (y : Core-F Child PartChild) → IsLayer (shape y)
-  layer (Core-F.Number at z) = record { value = refl; statement = λ m. refl; next = λ m. refl; blank = refl; filling = refl; declares = refl; arms = refl; crowd = refl; label = refl; list = λ t. refl; temporary = (λ i. refl, λ i. refl) }
-  layer (Core-F.Text at j bytes) = record { value = refl; statement = λ m. refl; next = λ m. refl; blank = refl; filling = refl; declares = refl; arms = refl; crowd = refl; label = refl; list = λ t. refl; temporary = (λ i. refl, λ i. refl) }
-  layer (Core-F.This at) = record { value = refl; statement = λ m. refl; next = λ m. refl; blank = refl; filling = refl; declares = refl; arms = refl; crowd = refl; label = refl; list = λ t. refl; temporary = (λ i. refl, λ i. refl) }
-  layer (Core-F.Local at i) = record { value = refl; statement = λ m. refl; next = λ m. refl; blank = refl; filling = refl; declares = refl; arms = refl; crowd = refl; label = refl; list = λ t. refl; temporary = (λ i. refl, λ i. refl) }
-  layer (Core-F.Static at n t) = record { value = refl; statement = λ m. refl; next = λ m. refl; blank = refl; filling = refl; declares = refl; arms = refl; crowd = refl; label = refl; list = λ t. refl; temporary = (λ i. refl, λ i. refl) }
-  layer (Core-F.Function at n t) = record { value = refl; statement = λ m. refl; next = λ m. refl; blank = refl; filling = refl; declares = refl; arms = refl; crowd = refl; label = refl; list = λ t. refl; temporary = (λ i. refl, λ i. refl) }
-  layer (Core-F.Member at e i) = record { value = refl; statement = λ m. refl; next = λ m. refl; blank = refl; filling = refl; declares = refl; arms = refl; crowd = refl; label = refl; list = λ t. refl; temporary = (λ i. refl, λ i. refl) }
-  layer (Core-F.Read at e) = record { value = e.1.value; statement = λ m. refl; next = λ m. refl; blank = refl; filling = refl; declares = refl; arms = refl; crowd = refl; label = refl; list = λ t. refl; temporary = (λ i. refl, λ i. refl) }
-  layer (Core-F.Address at e) = record { value = e.1.value; statement = λ m. refl; next = λ m. refl; blank = refl; filling = refl; declares = refl; arms = refl; crowd = refl; label = refl; list = λ t. refl; temporary = (λ i. refl, λ i. refl) }
-  layer (Core-F.Dereference at e) = record { value = e.1.value; statement = λ m. refl; next = λ m. refl; blank = refl; filling = refl; declares = refl; arms = refl; crowd = refl; label = refl; list = λ t. refl; temporary = (λ i. refl, λ i. refl) }
-  layer (Core-F.Decay at e) = record { value = e.1.value; statement = λ m. refl; next = λ m. refl; blank = refl; filling = refl; declares = refl; arms = refl; crowd = refl; label = refl; list = λ t. refl; temporary = (λ i. refl, λ i. refl) }
-  layer (Core-F.Index at a b) = record { value = two a b; statement = λ m. refl; next = λ m. refl; blank = refl; filling = refl; declares = refl; arms = refl; crowd = refl; label = refl; list = λ t. refl; temporary = (λ i. refl, λ i. refl) }
-  layer (Core-F.Convert at t e) = record { value = e.1.value; statement = λ m. refl; next = λ m. refl; blank = refl; filling = refl; declares = refl; arms = refl; crowd = refl; label = refl; list = λ t. refl; temporary = (λ i. refl, λ i. refl) }
-  layer (Core-F.Up at path e) = record { value = refl; statement = λ m. refl; next = λ m. refl; blank = refl; filling = refl; declares = refl; arms = refl; crowd = refl; label = refl; list = λ t. refl; temporary = (λ i. refl, λ i. refl) }
-  layer (Core-F.Down at c path e) = record { value = refl; statement = λ m. refl; next = λ m. refl; blank = refl; filling = refl; declares = refl; arms = refl; crowd = refl; label = refl; list = λ t. refl; temporary = (λ i. refl, λ i. refl) }
-  layer (Core-F.FromVoid at t e) = record { value = e.1.value; statement = λ m. refl; next = λ m. refl; blank = refl; filling = refl; declares = refl; arms = refl; crowd = refl; label = refl; list = λ t. refl; temporary = (λ i. refl, λ i. refl) }
-  layer (Core-F.ToMember at path e) = record { value = refl; statement = λ m. refl; next = λ m. refl; blank = refl; filling = refl; declares = refl; arms = refl; crowd = refl; label = refl; list = λ t. refl; temporary = (λ i. refl, λ i. refl) }
-  layer (Core-F.DataPointer at i) = record { value = refl; statement = λ m. refl; next = λ m. refl; blank = refl; filling = refl; declares = refl; arms = refl; crowd = refl; label = refl; list = λ t. refl; temporary = (λ i. refl, λ i. refl) }
-  layer (Core-F.FunctionPointer at t) = record { value = refl; statement = λ m. refl; next = λ m. refl; blank = refl; filling = refl; declares = refl; arms = refl; crowd = refl; label = refl; list = λ t. refl; temporary = (λ i. refl, λ i. refl) }
-  layer (Core-F.Through at a b) = record { value = refl; statement = λ m. refl; next = λ m. refl; blank = refl; filling = refl; declares = refl; arms = refl; crowd = refl; label = refl; list = λ t. refl; temporary = (λ i. refl, λ i. refl) }
-  layer (Core-F.Operate at op k a b) = record { value = two a b; statement = λ m. refl; next = λ m. refl; blank = refl; filling = refl; declares = refl; arms = refl; crowd = refl; label = refl; list = λ t. refl; temporary = (λ i. refl, λ i. refl) }
-  layer (Core-F.Unary at op k e) = record { value = e.1.value; statement = λ m. refl; next = λ m. refl; blank = refl; filling = refl; declares = refl; arms = refl; crowd = refl; label = refl; list = λ t. refl; temporary = (λ i. refl, λ i. refl) }
-  layer (Core-F.Not at e) = record { value = e.1.value; statement = λ m. refl; next = λ m. refl; blank = refl; filling = refl; declares = refl; arms = refl; crowd = refl; label = refl; list = λ t. refl; temporary = (λ i. refl, λ i. refl) }
-  layer (Core-F.And at a b) = record { value = two a b; statement = λ m. refl; next = λ m. refl; blank = refl; filling = refl; declares = refl; arms = refl; crowd = refl; label = refl; list = λ t. refl; temporary = (λ i. refl, λ i. refl) }
-  layer (Core-F.Or at a b) = record { value = two a b; statement = λ m. refl; next = λ m. refl; blank = refl; filling = refl; declares = refl; arms = refl; crowd = refl; label = refl; list = λ t. refl; temporary = (λ i. refl, λ i. refl) }
-  layer (Core-F.PointerOperate at op a b) = record { value = two a b; statement = λ m. refl; next = λ m. refl; blank = refl; filling = refl; declares = refl; arms = refl; crowd = refl; label = refl; list = λ t. refl; temporary = (λ i. refl, λ i. refl) }
-  layer (Core-F.Conditional at c a b) = record { value = three c a b; statement = λ m. refl; next = λ m. refl; blank = refl; filling = refl; declares = refl; arms = refl; crowd = refl; label = refl; list = λ t. refl; temporary = (λ i. refl, λ i. refl) }
-  layer (Core-F.Comma at es) = record { value = in_comma at es; statement = λ m. refl; next = λ m. refl; blank = refl; filling = refl; declares = refl; arms = refl; crowd = refl; label = refl; list = λ t. refl; temporary = (λ i. refl, λ i. refl) }
-  layer (Core-F.Store at a b) = record { value = two a b; statement = λ m. refl; next = λ m. refl; blank = refl; filling = refl; declares = refl; arms = refl; crowd = refl; label = refl; list = λ t. refl; temporary = (λ i. refl, λ i. refl) }
-  layer (Core-F.Update at a c b) = record { value = two a b; statement = λ m. refl; next = λ m. refl; blank = refl; filling = refl; declares = refl; arms = refl; crowd = refl; label = refl; list = λ t. refl; temporary = (λ i. refl, λ i. refl) }
-  layer (Core-F.Increment at is_postfix c e) = record { value = e.1.value; statement = λ m. refl; next = λ m. refl; blank = refl; filling = refl; declares = refl; arms = refl; crowd = refl; label = refl; list = λ t. refl; temporary = (λ i. refl, λ i. refl) }
-  layer (Core-F.Assign at t a b es) = record { value = refl; statement = λ m. refl; next = λ m. refl; blank = refl; filling = refl; declares = refl; arms = refl; crowd = refl; label = refl; list = λ t. refl; temporary = (λ i. refl, λ i. refl) }
-  layer (Core-F.Temporary at t e) = record { value = where-false at (is_reference (type_of tables t)) (test_of e).value _ e.1.value; statement = λ m. refl; next = λ m. refl; blank = refl; filling = refl; declares = refl; arms = refl; crowd = refl; label = refl; list = λ t. refl; temporary = (λ i. refl, λ i. refl) }
-  layer (Core-F.Call at f t None es) = record { value = in_call at t es; statement = λ m. refl; next = λ m. refl; blank = refl; filling = refl; declares = refl; arms = refl; crowd = refl; label = refl; list = λ t. refl; temporary = (λ i. refl, λ i. refl) }
-  layer (Core-F.Call at f t (Some object) es) = record { value = refl; statement = λ m. refl; next = λ m. refl; blank = refl; filling = refl; declares = refl; arms = refl; crowd = refl; label = refl; list = λ t. refl; temporary = (λ i. refl, λ i. refl) }
-  layer (Core-F.VirtualCall at m t e es) = record { value = refl; statement = λ m. refl; next = λ m. refl; blank = refl; filling = refl; declares = refl; arms = refl; crowd = refl; label = refl; list = λ t. refl; temporary = (λ i. refl, λ i. refl) }
-  layer (Core-F.PointerCall at None e t es) = record { value = in_call at t (e ∷ es); statement = λ m. refl; next = λ m. refl; blank = refl; filling = refl; declares = refl; arms = refl; crowd = refl; label = refl; list = λ t. refl; temporary = (λ i. refl, λ i. refl) }
-  layer (Core-F.PointerCall at (Some object) e t es) = record { value = refl; statement = λ m. refl; next = λ m. refl; blank = refl; filling = refl; declares = refl; arms = refl; crowd = refl; label = refl; list = λ t. refl; temporary = (λ i. refl, λ i. refl) }
-  layer (Core-F.New at t e) = record { value = refl; statement = λ m. refl; next = λ m. refl; blank = refl; filling = refl; declares = refl; arms = refl; crowd = refl; label = refl; list = λ t. refl; temporary = (λ i. refl, λ i. refl) }
-  layer (Core-F.NewArray at t n e) = record { value = refl; statement = λ m. refl; next = λ m. refl; blank = refl; filling = refl; declares = refl; arms = refl; crowd = refl; label = refl; list = λ t. refl; temporary = (λ i. refl, λ i. refl) }
-  layer (Core-F.Delete at t e) = record { value = refl; statement = λ m. refl; next = λ m. refl; blank = refl; filling = refl; declares = refl; arms = refl; crowd = refl; label = refl; list = λ t. refl; temporary = (λ i. refl, λ i. refl) }
-  layer (Core-F.DeleteArray at t e) = record { value = refl; statement = λ m. refl; next = λ m. refl; blank = refl; filling = refl; declares = refl; arms = refl; crowd = refl; label = refl; list = λ t. refl; temporary = (λ i. refl, λ i. refl) }
-  layer (Core-F.Build at f t es) = record { value = refl; statement = λ m. refl; next = λ m. refl; blank = refl; filling = refl; declares = refl; arms = refl; crowd = refl; label = refl; list = λ t. refl; temporary = (λ i. refl, λ i. refl) }
-  layer (Core-F.Copy at t e es) = record { value = refl; statement = λ m. refl; next = λ m. refl; blank = refl; filling = refl; declares = refl; arms = refl; crowd = refl; label = refl; list = λ t. refl; temporary = (λ i. refl, λ i. refl) }
-  layer (Core-F.Each at e) = record { value = refl; statement = λ m. refl; next = λ m. refl; blank = refl; filling = refl; declares = refl; arms = refl; crowd = refl; label = refl; list = λ t. refl; temporary = (λ i. refl, λ i. refl) }
-  layer (Core-F.List at es rest) = record { value = refl; statement = λ m. refl; next = λ m. refl; blank = refl; filling = refl; declares = refl; arms = refl; crowd = refl; label = refl; list = (λ t. list-is at es rest t, refl); temporary = (λ i. refl, λ i. refl) }
-  layer (Core-F.Characters at bytes) = record { value = refl; statement = λ m. refl; next = λ m. refl; blank = refl; filling = refl; declares = refl; arms = refl; crowd = refl; label = refl; list = λ t. refl; temporary = (λ i. refl, λ i. refl) }
-  layer (Core-F.Bind at holder.NoTemporary e) = record { value = e.1.value; statement = λ m. refl; next = λ m. refl; blank = refl; filling = refl; declares = refl; arms = refl; crowd = refl; label = refl; list = λ t. refl; temporary = (λ i. refl, λ i. refl) }
+  layer (Core-F.Number at z) = record { value = refl; statement = λ m. refl; next = λ m. refl; blank = refl; filling = refl; declares = refl; arms = refl; unfit = λ n. refl; label = refl; list = λ t. refl; temporary = (λ i. refl, λ i. refl) }
+  layer (Core-F.Text at j bytes) = record { value = refl; statement = λ m. refl; next = λ m. refl; blank = refl; filling = refl; declares = refl; arms = refl; unfit = λ n. refl; label = refl; list = λ t. refl; temporary = (λ i. refl, λ i. refl) }
+  layer (Core-F.This at) = record { value = refl; statement = λ m. refl; next = λ m. refl; blank = refl; filling = refl; declares = refl; arms = refl; unfit = λ n. refl; label = refl; list = λ t. refl; temporary = (λ i. refl, λ i. refl) }
+  layer (Core-F.Local at i) = record { value = refl; statement = λ m. refl; next = λ m. refl; blank = refl; filling = refl; declares = refl; arms = refl; unfit = λ n. refl; label = refl; list = λ t. refl; temporary = (λ i. refl, λ i. refl) }
+  layer (Core-F.Static at n t) = record { value = refl; statement = λ m. refl; next = λ m. refl; blank = refl; filling = refl; declares = refl; arms = refl; unfit = λ n. refl; label = refl; list = λ t. refl; temporary = (λ i. refl, λ i. refl) }
+  layer (Core-F.Function at n t) = record { value = refl; statement = λ m. refl; next = λ m. refl; blank = refl; filling = refl; declares = refl; arms = refl; unfit = λ n. refl; label = refl; list = λ t. refl; temporary = (λ i. refl, λ i. refl) }
+  layer (Core-F.Member at e i) = record { value = refl; statement = λ m. refl; next = λ m. refl; blank = refl; filling = refl; declares = refl; arms = refl; unfit = λ n. refl; label = refl; list = λ t. refl; temporary = (λ i. refl, λ i. refl) }
+  layer (Core-F.Read at e) = record { value = e.1.value; statement = λ m. refl; next = λ m. refl; blank = refl; filling = refl; declares = refl; arms = refl; unfit = λ n. refl; label = refl; list = λ t. refl; temporary = (λ i. refl, λ i. refl) }
+  layer (Core-F.Address at e) = record { value = e.1.value; statement = λ m. refl; next = λ m. refl; blank = refl; filling = refl; declares = refl; arms = refl; unfit = λ n. refl; label = refl; list = λ t. refl; temporary = (λ i. refl, λ i. refl) }
+  layer (Core-F.Dereference at e) = record { value = e.1.value; statement = λ m. refl; next = λ m. refl; blank = refl; filling = refl; declares = refl; arms = refl; unfit = λ n. refl; label = refl; list = λ t. refl; temporary = (λ i. refl, λ i. refl) }
+  layer (Core-F.Decay at e) = record { value = e.1.value; statement = λ m. refl; next = λ m. refl; blank = refl; filling = refl; declares = refl; arms = refl; unfit = λ n. refl; label = refl; list = λ t. refl; temporary = (λ i. refl, λ i. refl) }
+  layer (Core-F.Index at a b) = record { value = two a b; statement = λ m. refl; next = λ m. refl; blank = refl; filling = refl; declares = refl; arms = refl; unfit = λ n. refl; label = refl; list = λ t. refl; temporary = (λ i. refl, λ i. refl) }
+  layer (Core-F.Convert at t e) = record { value = e.1.value; statement = λ m. refl; next = λ m. refl; blank = refl; filling = refl; declares = refl; arms = refl; unfit = λ n. refl; label = refl; list = λ t. refl; temporary = (λ i. refl, λ i. refl) }
+  layer (Core-F.Up at path e) = record { value = refl; statement = λ m. refl; next = λ m. refl; blank = refl; filling = refl; declares = refl; arms = refl; unfit = λ n. refl; label = refl; list = λ t. refl; temporary = (λ i. refl, λ i. refl) }
+  layer (Core-F.Down at c path e) = record { value = refl; statement = λ m. refl; next = λ m. refl; blank = refl; filling = refl; declares = refl; arms = refl; unfit = λ n. refl; label = refl; list = λ t. refl; temporary = (λ i. refl, λ i. refl) }
+  layer (Core-F.FromVoid at t e) = record { value = e.1.value; statement = λ m. refl; next = λ m. refl; blank = refl; filling = refl; declares = refl; arms = refl; unfit = λ n. refl; label = refl; list = λ t. refl; temporary = (λ i. refl, λ i. refl) }
+  layer (Core-F.ToMember at path e) = record { value = refl; statement = λ m. refl; next = λ m. refl; blank = refl; filling = refl; declares = refl; arms = refl; unfit = λ n. refl; label = refl; list = λ t. refl; temporary = (λ i. refl, λ i. refl) }
+  layer (Core-F.DataPointer at i) = record { value = refl; statement = λ m. refl; next = λ m. refl; blank = refl; filling = refl; declares = refl; arms = refl; unfit = λ n. refl; label = refl; list = λ t. refl; temporary = (λ i. refl, λ i. refl) }
+  layer (Core-F.FunctionPointer at t) = record { value = refl; statement = λ m. refl; next = λ m. refl; blank = refl; filling = refl; declares = refl; arms = refl; unfit = λ n. refl; label = refl; list = λ t. refl; temporary = (λ i. refl, λ i. refl) }
+  layer (Core-F.Through at a b) = record { value = refl; statement = λ m. refl; next = λ m. refl; blank = refl; filling = refl; declares = refl; arms = refl; unfit = λ n. refl; label = refl; list = λ t. refl; temporary = (λ i. refl, λ i. refl) }
+  layer (Core-F.Operate at op k a b) = record { value = two a b; statement = λ m. refl; next = λ m. refl; blank = refl; filling = refl; declares = refl; arms = refl; unfit = λ n. refl; label = refl; list = λ t. refl; temporary = (λ i. refl, λ i. refl) }
+  layer (Core-F.Unary at op k e) = record { value = e.1.value; statement = λ m. refl; next = λ m. refl; blank = refl; filling = refl; declares = refl; arms = refl; unfit = λ n. refl; label = refl; list = λ t. refl; temporary = (λ i. refl, λ i. refl) }
+  layer (Core-F.Not at e) = record { value = e.1.value; statement = λ m. refl; next = λ m. refl; blank = refl; filling = refl; declares = refl; arms = refl; unfit = λ n. refl; label = refl; list = λ t. refl; temporary = (λ i. refl, λ i. refl) }
+  layer (Core-F.And at a b) = record { value = two a b; statement = λ m. refl; next = λ m. refl; blank = refl; filling = refl; declares = refl; arms = refl; unfit = λ n. refl; label = refl; list = λ t. refl; temporary = (λ i. refl, λ i. refl) }
+  layer (Core-F.Or at a b) = record { value = two a b; statement = λ m. refl; next = λ m. refl; blank = refl; filling = refl; declares = refl; arms = refl; unfit = λ n. refl; label = refl; list = λ t. refl; temporary = (λ i. refl, λ i. refl) }
+  layer (Core-F.PointerOperate at op a b) = record { value = two a b; statement = λ m. refl; next = λ m. refl; blank = refl; filling = refl; declares = refl; arms = refl; unfit = λ n. refl; label = refl; list = λ t. refl; temporary = (λ i. refl, λ i. refl) }
+  layer (Core-F.Conditional at c a b) = record { value = three c a b; statement = λ m. refl; next = λ m. refl; blank = refl; filling = refl; declares = refl; arms = refl; unfit = λ n. refl; label = refl; list = λ t. refl; temporary = (λ i. refl, λ i. refl) }
+  layer (Core-F.Comma at es) = record { value = in_comma at es; statement = λ m. refl; next = λ m. refl; blank = refl; filling = refl; declares = refl; arms = refl; unfit = λ n. refl; label = refl; list = λ t. refl; temporary = (λ i. refl, λ i. refl) }
+  layer (Core-F.Store at a b) = record { value = two a b; statement = λ m. refl; next = λ m. refl; blank = refl; filling = refl; declares = refl; arms = refl; unfit = λ n. refl; label = refl; list = λ t. refl; temporary = (λ i. refl, λ i. refl) }
+  layer (Core-F.Update at a c b) = record { value = two a b; statement = λ m. refl; next = λ m. refl; blank = refl; filling = refl; declares = refl; arms = refl; unfit = λ n. refl; label = refl; list = λ t. refl; temporary = (λ i. refl, λ i. refl) }
+  layer (Core-F.Increment at is_postfix c e) = record { value = e.1.value; statement = λ m. refl; next = λ m. refl; blank = refl; filling = refl; declares = refl; arms = refl; unfit = λ n. refl; label = refl; list = λ t. refl; temporary = (λ i. refl, λ i. refl) }
+  layer (Core-F.Assign at t a b es) = record { value = refl; statement = λ m. refl; next = λ m. refl; blank = refl; filling = refl; declares = refl; arms = refl; unfit = λ n. refl; label = refl; list = λ t. refl; temporary = (λ i. refl, λ i. refl) }
+  layer (Core-F.Temporary at t e) = record { value = where-false at (is_reference (type_of tables t)) (test_of e).value _ e.1.value; statement = λ m. refl; next = λ m. refl; blank = refl; filling = refl; declares = refl; arms = refl; unfit = λ n. refl; label = refl; list = λ t. refl; temporary = (λ i. refl, λ i. refl) }
+  layer (Core-F.Call at f t None es) = record { value = in_call at t es; statement = λ m. refl; next = λ m. refl; blank = refl; filling = refl; declares = refl; arms = refl; unfit = λ n. refl; label = refl; list = λ t. refl; temporary = (λ i. refl, λ i. refl) }
+  layer (Core-F.Call at f t (Some object) es) = record { value = refl; statement = λ m. refl; next = λ m. refl; blank = refl; filling = refl; declares = refl; arms = refl; unfit = λ n. refl; label = refl; list = λ t. refl; temporary = (λ i. refl, λ i. refl) }
+  layer (Core-F.VirtualCall at m t e es) = record { value = refl; statement = λ m. refl; next = λ m. refl; blank = refl; filling = refl; declares = refl; arms = refl; unfit = λ n. refl; label = refl; list = λ t. refl; temporary = (λ i. refl, λ i. refl) }
+  layer (Core-F.PointerCall at None e t es) = record { value = in_call at t (e ∷ es); statement = λ m. refl; next = λ m. refl; blank = refl; filling = refl; declares = refl; arms = refl; unfit = λ n. refl; label = refl; list = λ t. refl; temporary = (λ i. refl, λ i. refl) }
+  layer (Core-F.PointerCall at (Some object) e t es) = record { value = refl; statement = λ m. refl; next = λ m. refl; blank = refl; filling = refl; declares = refl; arms = refl; unfit = λ n. refl; label = refl; list = λ t. refl; temporary = (λ i. refl, λ i. refl) }
+  layer (Core-F.New at t e) = record { value = refl; statement = λ m. refl; next = λ m. refl; blank = refl; filling = refl; declares = refl; arms = refl; unfit = λ n. refl; label = refl; list = λ t. refl; temporary = (λ i. refl, λ i. refl) }
+  layer (Core-F.NewArray at t n e) = record { value = refl; statement = λ m. refl; next = λ m. refl; blank = refl; filling = refl; declares = refl; arms = refl; unfit = λ n. refl; label = refl; list = λ t. refl; temporary = (λ i. refl, λ i. refl) }
+  layer (Core-F.Delete at t e) = record { value = refl; statement = λ m. refl; next = λ m. refl; blank = refl; filling = refl; declares = refl; arms = refl; unfit = λ n. refl; label = refl; list = λ t. refl; temporary = (λ i. refl, λ i. refl) }
+  layer (Core-F.DeleteArray at t e) = record { value = refl; statement = λ m. refl; next = λ m. refl; blank = refl; filling = refl; declares = refl; arms = refl; unfit = λ n. refl; label = refl; list = λ t. refl; temporary = (λ i. refl, λ i. refl) }
+  layer (Core-F.Build at f t es) = record { value = refl; statement = λ m. refl; next = λ m. refl; blank = refl; filling = refl; declares = refl; arms = refl; unfit = λ n. refl; label = refl; list = λ t. refl; temporary = (λ i. refl, λ i. refl) }
+  layer (Core-F.Copy at t e es) = record { value = refl; statement = λ m. refl; next = λ m. refl; blank = refl; filling = refl; declares = refl; arms = refl; unfit = λ n. refl; label = refl; list = λ t. refl; temporary = (λ i. refl, λ i. refl) }
+  layer (Core-F.Each at e) = record { value = refl; statement = λ m. refl; next = λ m. refl; blank = refl; filling = refl; declares = refl; arms = refl; unfit = λ n. refl; label = refl; list = λ t. refl; temporary = (λ i. refl, λ i. refl) }
+  layer (Core-F.List at es rest) = record { value = refl; statement = λ m. refl; next = λ m. refl; blank = refl; filling = refl; declares = refl; arms = refl; unfit = λ n. refl; label = refl; list = (λ t. list-is at es rest t, refl); temporary = (λ i. refl, λ i. refl) }
+  layer (Core-F.Characters at bytes) = record { value = refl; statement = λ m. refl; next = λ m. refl; blank = refl; filling = refl; declares = refl; arms = refl; unfit = λ n. refl; label = refl; list = λ t. refl; temporary = (λ i. refl, λ i. refl) }
+  layer (Core-F.Bind at holder.NoTemporary e) = record { value = e.1.value; statement = λ m. refl; next = λ m. refl; blank = refl; filling = refl; declares = refl; arms = refl; unfit = λ n. refl; label = refl; list = λ t. refl; temporary = (λ i. refl, λ i. refl) }
   layer (Core-F.Bind at (holder.LocalTemporary j t) e) = record {
     value = refl;
     statement = λ m. refl;
@@ -336,7 +384,7 @@ module _ (tables : Tables) (signature : MemberRef → Name) where
     filling = refl;
     declares = refl;
     arms = refl;
-    crowd = refl;
+    unfit = λ n. refl;
     label = refl;
     list = λ t. refl;
     temporary = (
@@ -345,28 +393,28 @@ module _ (tables : Tables) (signature : MemberRef → Name) where
       λ t. refl,
     );
   }
-  layer (Core-F.Bind at (holder.StaticTemporary name) e) = record { value = refl; statement = λ m. refl; next = λ m. refl; blank = refl; filling = refl; declares = refl; arms = refl; crowd = refl; label = refl; list = λ t. refl; temporary = (λ i. refl, λ i. refl) }
-  layer (Core-F.Zeros at) = record { value = refl; statement = λ m. refl; next = λ m. refl; blank = refl; filling = refl; declares = refl; arms = refl; crowd = refl; label = refl; list = λ t. refl; temporary = (λ i. refl, λ i. refl) }
-  layer (Core-F.Blank at) = record { value = refl; statement = λ m. refl; next = λ m. refl; blank = refl; filling = refl; declares = refl; arms = refl; crowd = refl; label = refl; list = λ t. refl; temporary = (λ i. refl, λ i. refl) }
-  layer (Core-F.Full at e) = record { value = refl; statement = λ m. start-is e; next = λ m. refl; blank = refl; filling = refl; declares = refl; arms = refl; crowd = refl; label = refl; list = λ t. refl; temporary = (λ i. refl, λ i. refl) }
-  layer (Core-F.Block at es) = record { value = refl; statement = λ m. in_order m es; next = λ m. refl; blank = refl; filling = refl; declares = refl; arms = refl; crowd = in_crowd at false es; label = refl; list = λ t. refl; temporary = (λ i. refl, λ i. refl) }
-  layer (Core-F.Sequence at es) = record { value = refl; statement = λ m. in_order m es; next = λ m. nexts m es; blank = refl; filling = refl; declares = in_declares es; arms = in_arms es; crowd = in_crowd at false es; label = refl; list = λ t. refl; temporary = (λ i. refl, λ i. refl) }
-  layer (Core-F.Declare at i t e) = record { value = refl; statement = λ m. where-true at (nat_le m i) _ _ (local-is at i (type_of tables t) e); next = λ m. behind-is i e; blank = refl; filling = refl; declares = refl; arms = refl; crowd = refl; label = refl; list = λ t. refl; temporary = (λ i. refl, λ i. refl) }
-  layer (Core-F.Once at n e) = record { value = refl; statement = λ m. refl; next = λ m. refl; blank = refl; filling = refl; declares = refl; arms = refl; crowd = refl; label = refl; list = λ t. refl; temporary = (λ i. refl, λ i. refl) }
-  layer (Core-F.If at c a None) = record { value = refl; statement = λ m. and-is _ _ _ _ c.1.value (and-is _ _ _ _ (a.1.statement m) (statement_or-is m None)); next = λ m. refl; blank = refl; filling = refl; declares = refl; arms = arms-are a None; crowd = and-is _ _ _ _ a.1.crowd (or_crowd-is None); label = refl; list = λ t. refl; temporary = (λ i. refl, λ i. refl) }
-  layer (Core-F.If at c a (Some b)) = record { value = refl; statement = λ m. and-is _ _ _ _ c.1.value (and-is _ _ _ _ (a.1.statement m) (statement_or-is m (Some b))); next = λ m. refl; blank = refl; filling = refl; declares = refl; arms = arms-are a (Some b); crowd = and-is _ _ _ _ a.1.crowd (or_crowd-is (Some b)); label = refl; list = λ t. refl; temporary = (λ i. refl, λ i. refl) }
-  layer (Core-F.Loop at f None None s) = record { value = refl; statement = in_loop None None s; next = λ m. refl; blank = refl; filling = refl; declares = refl; arms = refl; crowd = s.1.crowd; label = refl; list = λ t. refl; temporary = (λ i. refl, λ i. refl) }
-  layer (Core-F.Loop at f None (Some e) s) = record { value = refl; statement = in_loop None (Some e) s; next = λ m. refl; blank = refl; filling = refl; declares = refl; arms = refl; crowd = s.1.crowd; label = refl; list = λ t. refl; temporary = (λ i. refl, λ i. refl) }
-  layer (Core-F.Loop at f (Some c) None s) = record { value = refl; statement = in_loop (Some c) None s; next = λ m. refl; blank = refl; filling = refl; declares = refl; arms = refl; crowd = s.1.crowd; label = refl; list = λ t. refl; temporary = (λ i. refl, λ i. refl) }
-  layer (Core-F.Loop at f (Some c) (Some e) s) = record { value = refl; statement = in_loop (Some c) (Some e) s; next = λ m. refl; blank = refl; filling = refl; declares = refl; arms = refl; crowd = s.1.crowd; label = refl; list = λ t. refl; temporary = (λ i. refl, λ i. refl) }
-  layer (Core-F.Switch at e es) = record { value = refl; statement = λ m. and-is _ _ _ _ e.1.value (in_cases m es); next = λ m. refl; blank = refl; filling = refl; declares = refl; arms = refl; crowd = in_crowded_cases at es; label = refl; list = λ t. refl; temporary = (λ i. refl, λ i. refl) }
-  layer (Core-F.Case at z) = record { value = refl; statement = λ m. refl; next = λ m. refl; blank = refl; filling = refl; declares = refl; arms = refl; crowd = refl; label = refl; list = λ t. refl; temporary = (λ i. refl, λ i. refl) }
-  layer (Core-F.Default at) = record { value = refl; statement = λ m. refl; next = λ m. refl; blank = refl; filling = refl; declares = refl; arms = refl; crowd = refl; label = refl; list = λ t. refl; temporary = (λ i. refl, λ i. refl) }
-  layer (Core-F.Break at) = record { value = refl; statement = λ m. refl; next = λ m. refl; blank = refl; filling = refl; declares = refl; arms = refl; crowd = refl; label = refl; list = λ t. refl; temporary = (λ i. refl, λ i. refl) }
-  layer (Core-F.Continue at) = record { value = refl; statement = λ m. refl; next = λ m. refl; blank = refl; filling = refl; declares = refl; arms = refl; crowd = refl; label = refl; list = λ t. refl; temporary = (λ i. refl, λ i. refl) }
-  layer (Core-F.Return at None) = record { value = refl; statement = λ m. refl; next = λ m. refl; blank = refl; filling = refl; declares = refl; arms = refl; crowd = refl; label = refl; list = λ t. refl; temporary = (λ i. refl, λ i. refl) }
-  layer (Core-F.Return at (Some e)) = record { value = refl; statement = λ m. e.1.value; next = λ m. refl; blank = refl; filling = refl; declares = refl; arms = refl; crowd = refl; label = refl; list = λ t. refl; temporary = (λ i. refl, λ i. refl) }
-  layer (Core-F.Parts at ps s) = record { value = refl; statement = λ m. refl; next = λ m. refl; blank = refl; filling = refl; declares = refl; arms = refl; crowd = refl; label = refl; list = λ t. refl; temporary = (λ i. refl, λ i. refl) }
+  layer (Core-F.Bind at (holder.StaticTemporary name) e) = record { value = refl; statement = λ m. refl; next = λ m. refl; blank = refl; filling = refl; declares = refl; arms = refl; unfit = λ n. refl; label = refl; list = λ t. refl; temporary = (λ i. refl, λ i. refl) }
+  layer (Core-F.Zeros at) = record { value = refl; statement = λ m. refl; next = λ m. refl; blank = refl; filling = refl; declares = refl; arms = refl; unfit = λ n. refl; label = refl; list = λ t. refl; temporary = (λ i. refl, λ i. refl) }
+  layer (Core-F.Blank at) = record { value = refl; statement = λ m. refl; next = λ m. refl; blank = refl; filling = refl; declares = refl; arms = refl; unfit = λ n. refl; label = refl; list = λ t. refl; temporary = (λ i. refl, λ i. refl) }
+  layer (Core-F.Full at e) = record { value = refl; statement = λ m. start-is e; next = λ m. refl; blank = refl; filling = refl; declares = refl; arms = refl; unfit = λ n. refl; label = refl; list = λ t. refl; temporary = (λ i. refl, λ i. refl) }
+  layer (Core-F.Block at es) = record { value = refl; statement = λ m. in_order m es; next = λ m. refl; blank = refl; filling = refl; declares = refl; arms = refl; unfit = λ n. in_unfit n es; label = refl; list = λ t. refl; temporary = (λ i. refl, λ i. refl) }
+  layer (Core-F.Sequence at es) = record { value = refl; statement = λ m. in_order m es; next = λ m. nexts m es; blank = refl; filling = refl; declares = in_declares es; arms = in_arms es; unfit = λ n. in_unfit n es; label = refl; list = λ t. refl; temporary = (λ i. refl, λ i. refl) }
+  layer (Core-F.Declare at i t e) = record { value = refl; statement = λ m. where-true at (nat_le m i) _ _ (local-is at i (type_of tables t) e); next = λ m. behind-is i e; blank = refl; filling = refl; declares = refl; arms = refl; unfit = λ n. refl; label = refl; list = λ t. refl; temporary = (λ i. refl, λ i. refl) }
+  layer (Core-F.Once at n e) = record { value = refl; statement = λ m. refl; next = λ m. refl; blank = refl; filling = refl; declares = refl; arms = refl; unfit = λ n. refl; label = refl; list = λ t. refl; temporary = (λ i. refl, λ i. refl) }
+  layer (Core-F.If at c a None) = record { value = refl; statement = λ m. and-is _ _ _ _ c.1.value (arms-stated m a None); next = λ m. arms-next m a None; blank = refl; filling = refl; declares = arms-declare a None; arms = arms-declare a None; unfit = λ n. arms-fit at n a None; label = refl; list = λ t. refl; temporary = (λ i. refl, λ i. refl) }
+  layer (Core-F.If at c a (Some b)) = record { value = refl; statement = λ m. and-is _ _ _ _ c.1.value (arms-stated m a (Some b)); next = λ m. arms-next m a (Some b); blank = refl; filling = refl; declares = arms-declare a (Some b); arms = arms-declare a (Some b); unfit = λ n. arms-fit at n a (Some b); label = refl; list = λ t. refl; temporary = (λ i. refl, λ i. refl) }
+  layer (Core-F.Loop at f None None s) = record { value = refl; statement = in_loop None None s; next = λ m. refl; blank = refl; filling = refl; declares = refl; arms = refl; unfit = s.1.unfit; label = refl; list = λ t. refl; temporary = (λ i. refl, λ i. refl) }
+  layer (Core-F.Loop at f None (Some e) s) = record { value = refl; statement = in_loop None (Some e) s; next = λ m. refl; blank = refl; filling = refl; declares = refl; arms = refl; unfit = s.1.unfit; label = refl; list = λ t. refl; temporary = (λ i. refl, λ i. refl) }
+  layer (Core-F.Loop at f (Some c) None s) = record { value = refl; statement = in_loop (Some c) None s; next = λ m. refl; blank = refl; filling = refl; declares = refl; arms = refl; unfit = s.1.unfit; label = refl; list = λ t. refl; temporary = (λ i. refl, λ i. refl) }
+  layer (Core-F.Loop at f (Some c) (Some e) s) = record { value = refl; statement = in_loop (Some c) (Some e) s; next = λ m. refl; blank = refl; filling = refl; declares = refl; arms = refl; unfit = s.1.unfit; label = refl; list = λ t. refl; temporary = (λ i. refl, λ i. refl) }
+  layer (Core-F.Switch at e es) = record { value = refl; statement = λ m. and-is _ _ _ _ e.1.value (in_cases m es); next = λ m. refl; blank = refl; filling = refl; declares = refl; arms = refl; unfit = λ n. in_switch at n es; label = refl; list = λ t. refl; temporary = (λ i. refl, λ i. refl) }
+  layer (Core-F.Case at z) = record { value = refl; statement = λ m. refl; next = λ m. refl; blank = refl; filling = refl; declares = refl; arms = refl; unfit = λ n. refl; label = refl; list = λ t. refl; temporary = (λ i. refl, λ i. refl) }
+  layer (Core-F.Default at) = record { value = refl; statement = λ m. refl; next = λ m. refl; blank = refl; filling = refl; declares = refl; arms = refl; unfit = λ n. refl; label = refl; list = λ t. refl; temporary = (λ i. refl, λ i. refl) }
+  layer (Core-F.Break at) = record { value = refl; statement = λ m. refl; next = λ m. refl; blank = refl; filling = refl; declares = refl; arms = refl; unfit = λ n. refl; label = refl; list = λ t. refl; temporary = (λ i. refl, λ i. refl) }
+  layer (Core-F.Continue at) = record { value = refl; statement = λ m. refl; next = λ m. refl; blank = refl; filling = refl; declares = refl; arms = refl; unfit = λ n. refl; label = refl; list = λ t. refl; temporary = (λ i. refl, λ i. refl) }
+  layer (Core-F.Return at None) = record { value = refl; statement = λ m. refl; next = λ m. refl; blank = refl; filling = refl; declares = refl; arms = refl; unfit = λ n. refl; label = refl; list = λ t. refl; temporary = (λ i. refl, λ i. refl) }
+  layer (Core-F.Return at (Some e)) = record { value = refl; statement = λ m. e.1.value; next = λ m. refl; blank = refl; filling = refl; declares = refl; arms = refl; unfit = λ n. refl; label = refl; list = λ t. refl; temporary = (λ i. refl, λ i. refl) }
+  layer (Core-F.Parts at ps s) = record { value = refl; statement = λ m. refl; next = λ m. refl; blank = refl; filling = refl; declares = refl; arms = refl; unfit = λ n. refl; label = refl; list = λ t. refl; temporary = (λ i. refl, λ i. refl) }
 
   rolled : (x : Core-F Node PartStart) → IsLayer x → IsTested (roll-Core x)
   rolled x p =

@@ -1,5 +1,5 @@
 -- A file is built where the test finds nothing in it.
-use Rattle.std.proofs.Common.{◌≡◌, ℕ, suc, ◌==◌, Bool, true, false, not, ◌&&◌, ◌||◌, List, [], ◌∷◌, map, length, Option, Some, None, refl, ap, sym, ◌∙◌, arith}
+use Rattle.std.proofs.Common.{◌≡◌, ℕ, suc, ◌+◌, ◌==◌, Bool, true, false, not, ◌&&◌, ◌||◌, List, [], ◌∷◌, map, length, Option, Some, None, refl, ap, sym, ◌∙◌, arith}
 use Rattle.std.specs.Prelude.{is_some, bytes_eq, codes, cond, find, if◌then◌else◌, nat_eq}
 use Rattle.std.specs.List.{list_all, starts_with}
 use Rattle.std.specs.Char.{is_ascii_digit}
@@ -17,14 +17,13 @@ use Rattle.cf_core.specs.NodePlace.{place}
 use Rattle.cf_core.specs.FromTypes.{Tables, type_of, taking}
 use Rattle.cf_core.specs.FromClasses.{signature_of, classes_in}
 use Rattle.cf_core.specs.FromUnit.{Unit as CoreUnit, tables_of, file_of, function_of, static_of, role_of}
-use Rattle.cf_sequence.specs.Built.{is_statement, is_chain, is_plain_role, is_none, is_built_function, is_built_static, is_built_file, has_mark, declares_last, is_numeral, is_mark}
+use Rattle.cf_sequence.specs.Built.{is_statement, is_chain, is_plain_role, is_none, is_built_function, is_built_static, is_built_file, has_mark, arms_fit, is_numeral, is_mark}
 use Rattle.cf_sequence.specs.Statements.{type_of_static}
 use Rattle.cf_sequence.proofs.StaticObjects.{type_found}
 use Rattle.cf_sequence_built.specs.Unbuilt as unbuilt
 use Rattle.cf_sequence_built.specs.Unbuilt.{Test, test, is_plain, takes_nothing, is_usual, in_function, in_functions, constant, sets_object, type_named, is_usual_object, in_static, in_statics, in_file, in_body}
 use Rattle.cf_sequence_written.proofs.Parameters.{parameters-taking, result-taking}
 use Rattle.cf_sequence_written.proofs.Constants.{sets-object, told}
-use Rattle.cf_sequence_written.proofs.Lasts.{last-is}
 use Rattle.cf_sequence_written.proofs.Tested.{clear, and-is, where-true, Tests, tested}
 
 some-first : (n : ℕ) → (suc n == 0) ≡ false
@@ -70,12 +69,15 @@ module _ (tables : Tables) where
       let F : Function = function_of tables f in
       let params : parameters F.type ≡ map (type_of tables) f.params = parameters-taking (map (type_of tables) f.params) (type_of tables f.result) false in
       let count : length f.params ≡ length (parameters F.type) = sym (length-map f.params (type_of tables)) ∙ ap length (sym params) in
+      let all : length f.params + length f.locals ≡ length (parameters F.type) + length F.locals =
+      ap (λ m. m + length f.locals) count ∙ ap (λ n. length (parameters F.type) + n) (sym (length-map f.locals (type_of tables))) in
       let named : Bool = not (bytes_eq f.name (codes "__main")) in
-      let body : Bool = is_statement (length (parameters F.type)) F.body && declares_last true F.body in
+      let body : Bool = is_statement (length (parameters F.type)) F.body && arms_fit (length (parameters F.type) + length F.locals) F.body in
       let tests = tested tables (signature_of tables) f.body in
       where-true (place f.body) (is_usual tables f) (in_body tables f) body
-      (and-is ((test tables f.body).statement (length f.params)) (test tables f.body).crowd (is_statement (length (parameters F.type)) F.body) (declares_last true F.body)
-      (Tests.statement tests (length f.params) ∙ ap (λ m. is_statement m F.body) count) (Tests.crowd tests ∙ sym (last-is true F.body)))
+      (and-is ((test tables f.body).statement (length f.params)) ((test tables f.body).unfit (length f.params + length f.locals)) (is_statement (length (parameters F.type)) F.body)
+      (arms_fit (length (parameters F.type) + length F.locals) F.body)
+      (Tests.statement tests (length f.params) ∙ ap (λ m. is_statement m F.body) count) (Tests.unfit tests (length f.params + length f.locals) ∙ ap (λ m. arms_fit m F.body) all))
       ∙ parts-are (is_plain f.role) (named || takes_nothing f) (not (is_class (type_of tables f.result))) body
       ∙ ap (λ p. p && (true && ((named || takes_nothing f) && (not (is_class (type_of tables f.result)) && body)))) (role-is f.role)
       ∙ ap (λ k. is_plain_role F.role && (k && ((named || takes_nothing f) && (not (is_class (type_of tables f.result)) && body))))

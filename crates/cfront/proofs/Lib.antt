@@ -1,7 +1,7 @@
 pub mod Causes
 pub mod MadePrograms
+pub mod Meanings
 pub mod Pieces
-pub mod Readings
 pub mod Runs
-pub mod Units
+pub mod Unhindered
 pub mod WordLists

@@ -6,7 +6,7 @@ use Rattle.cf_base.specs.declared.limit.Bound.{Bound}
 use Rattle.cf_base.specs.declared.limit.Bound.TheVariants as bound
 use Rattle.cf_base.specs.Integers.{bits_of}
 use Rattle.cf_base.specs.Rule.{sections, texts}
-use Rattle.cc_run.specs.Run.{number_of}
+use Rattle.cc_whole_memory.specs.Store.{act_number}
 use Rattle.cfront.specs.declared.outcome.Outcome.{Outcome}
 use Rattle.cfront.specs.declared.outcome.Outcome.TheVariants as answer
 use Rattle.cfront.specs.declared.position.Position.{Position}
@@ -52,7 +52,8 @@ abbrev pub last_line : List (List ℕ) → Position → Outcome → List ℕ
 last_line names position (answer.Ended status) = concat (codes "cfront: ended " ∷ signed_decimal status ∷ codes "\n" ∷ [])
 last_line names position answer.Ticks = concat (codes "cfront: out of ticks\n" ∷ [])
 last_line names position answer.Depth = concat (codes "cfront: too deep\n" ∷ [])
-last_line names position (answer.Undefined act) = concat (codes "cfront: undefined act A" ∷ decimal (number_of act) ∷ codes "\n" ∷ [])
+last_line names position (answer.Undefined act) = concat (codes "cfront: undefined act A" ∷ decimal (act_number act) ∷ codes "\n" ∷ [])
+last_line names position (answer.Frames product) = concat (codes "cfront: frames " ∷ decimal product ∷ codes "\n" ∷ [])
 last_line names position answer.Usage = concat (codes "usage: cfront go|translate|layout|link|run|name|sample\n" ∷ [])
 last_line names position (answer.Refused file rule at) =
     concat (file_name names file ∷ codes ":" ∷ decimal position.line ∷ codes ":" ∷ decimal position.column ∷ codes ": K" ∷ decimal rule
@@ -76,6 +77,7 @@ status_of answer.SinkFault = 106
 status_of answer.Ticks = 107
 status_of answer.Depth = 108
 status_of (answer.Undefined act) = 110
+status_of (answer.Frames product) = 111
 status_of (answer.Limit file limit) = 113
 
 -- of the whole answer, want of memory too

@@ -1,6 +1,7 @@
 pub mod Answer
 pub mod Cause
 pub mod LastLine
+pub mod Meant
 pub mod Outside
 pub mod Position
 pub mod Run

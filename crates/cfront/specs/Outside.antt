@@ -2,7 +2,7 @@
 use Rattle.std.specs.Prelude.{◌≡◌, IsTrue}
 use Rattle.cf_base.specs.Disk.{Disk}
 use Rattle.cf_base.specs.Stream.{Stream}
-use Rattle.cc_run.specs.Run.{Streams, streams}
+use Rattle.cf_streams.specs.Streams.{Streams, streams}
 
 pub record Outside : Type 0 where
   pub files : Disk
@@ -17,9 +17,9 @@ outside files input out err = record { files = files; input = input; out = out; 
 abbrev pub with_err : Outside → Stream → Outside
 with_err w err = record { files = w.files; input = w.input; out = w.out; err = err }
 
--- the streams that a run of a program has; its trace goes to `err`
+-- the streams that a run of a program has
 abbrev pub streams_of : Outside → Streams
-streams_of w = streams w.input w.out w.err
+streams_of w = streams w.input w.out
 
 -- input and sinks are as they were
 pub record StreamsStand (old new : Outside) : Type 0 where

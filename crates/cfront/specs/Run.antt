@@ -1,12 +1,14 @@
 -- How a run of a program answers.
-use Rattle.std.specs.Prelude.{◌≡◌, ℕ, List, false, IsTrue, Result, Ok, Err}
+use Rattle.std.specs.Prelude.{◌≡◌, ℕ, List, IsTrue, Result, Ok, Err}
 use Rattle.cf_base.specs.Rose.{Rose}
 use Rattle.cf_base.specs.Stream.{Stream, HandedOn}
-use Rattle.cc_tree.specs.declared.unit.CProgram.{CProgram}
-use Rattle.cc_tree.specs.declared.outcome.End.{End}
-use Rattle.cc_tree.specs.declared.outcome.End.TheVariants as ended
-use Rattle.cc_run.specs.declared.types.Limits.{Limits}
-use Rattle.cc_run.specs.Run.{Streams, Front, OutputFailed, LeavesAt, SameCounts}
+use Rattle.cf_base.specs.World.{Outcome as Meant}
+use Rattle.cf_streams.specs.Streams.{Streams, entered_count}
+use Rattle.cc_whole.specs.declared.unit.CProgram.{CProgram}
+use Rattle.cc_whole_run.specs.declared.types.End.{End}
+use Rattle.cc_whole_run.specs.declared.types.End.TheVariants as ended
+use Rattle.cc_whole_run.specs.declared.types.Limits.{Limits}
+use Rattle.cc_whole_run.specs.Run.{Broken, Front, LeavesAt, meant}
 use Rattle.cfront.specs.declared.outcome.Outcome.{Outcome}
 use Rattle.cfront.specs.declared.outcome.Outcome.TheVariants as answer
 
@@ -20,31 +22,38 @@ outcome_of ended.SourceFault = answer.SourceFault
 outcome_of ended.SinkFault = answer.SinkFault
 
 -- A run came to this end, and then its output was flushed.
-pub record FlushedAt (program : CProgram) (limits : Limits) (old new : Streams) (entered : ℕ) (end : End) : Type 0 where
-  pub left : LeavesAt program limits false old new entered end
+pub record FlushedAt (means : List ℕ → Meant) (old new : Streams) (entered : ℕ) (end : End) : Type 0 where
+  pub left : LeavesAt means old new entered end
   pub handed_on : IsTrue new.out.told → HandedOn new.out
 
+-- A call on the output failed, in the run or behind it. A call on the input may have failed before.
+pub record OutputFault (means : List ℕ → Meant) (old new : Streams) (entered : ℕ) : Type 0 where
+  pub front : Front means old new
+  pub counted : entered ≡ entered_count front.events
+  pub rose : Rose old.out.faults new.out.faults
+
 -- What a run in which so many functions were entered leaves on the streams, by its answer. The output is flushed behind the run, so that it may fail then too.
-abbrev pub RunsTo : CProgram → Limits → Streams → Streams → ℕ → Outcome → Type 0
-RunsTo program limits old new entered (answer.Ended status) = FlushedAt program limits old new entered (ended.Ended status)
-RunsTo program limits old new entered answer.Ticks = FlushedAt program limits old new entered ended.Ticks
-RunsTo program limits old new entered answer.Depth = FlushedAt program limits old new entered ended.Depth
-RunsTo program limits old new entered (answer.Undefined act) = FlushedAt program limits old new entered (ended.Undefined act)
-RunsTo program limits old new entered answer.Usage = ⊥
-RunsTo program limits old new entered (answer.Refused file rule at) = ⊥
-RunsTo program limits old new entered (answer.LinkRefused rule name) = ⊥
-RunsTo program limits old new entered (answer.Limit file limit) = ⊥
-RunsTo program limits old new entered answer.FileFault = ⊥
-RunsTo program limits old new entered answer.SourceFault = FlushedAt program limits old new entered ended.SourceFault
-RunsTo program limits old new entered answer.SinkFault = OutputFailed program limits false old new entered
+abbrev pub RunsTo : (List ℕ → Meant) → Streams → Streams → ℕ → Outcome → Type 0
+RunsTo means old new entered (answer.Ended status) = FlushedAt means old new entered (ended.Ended status)
+RunsTo means old new entered answer.Ticks = FlushedAt means old new entered ended.Ticks
+RunsTo means old new entered answer.Depth = FlushedAt means old new entered ended.Depth
+RunsTo means old new entered (answer.Undefined act) = FlushedAt means old new entered (ended.Undefined act)
+RunsTo means old new entered answer.Usage = ⊥
+RunsTo means old new entered (answer.Refused file rule at) = ⊥
+RunsTo means old new entered (answer.LinkRefused rule name) = ⊥
+RunsTo means old new entered (answer.Limit file limit) = ⊥
+RunsTo means old new entered (answer.Frames product) = ⊥
+RunsTo means old new entered answer.FileFault = ⊥
+RunsTo means old new entered answer.SourceFault = FlushedAt means old new entered ended.SourceFault
+RunsTo means old new entered answer.SinkFault = OutputFault means old new entered
 
 pub record RanTo (program : CProgram) (limits : Limits) (old new : Streams) (outcome : Outcome) : Type 0 where
   pub entered : ℕ
-  pub runs : RunsTo program limits old new entered outcome
+  pub runs : RunsTo (meant program limits) old new entered outcome
 
 abbrev pub RunLeaves : {M : Type 0} → CProgram → Limits → Streams → Streams → Result Outcome M → Type 0
 RunLeaves program limits old new (Ok outcome) = RanTo program limits old new outcome
-RunLeaves program limits old new (Err memory) = Front program limits false old new × SameCounts old new
+RunLeaves program limits old new (Err memory) = Broken (meant program limits) old new
 
 -- the flush behind a run was done, and the run's answer stays
 pub record FlushDone (before after : Outcome) (old new : Stream) : Type 0 where

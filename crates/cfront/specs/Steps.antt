@@ -1,33 +1,30 @@
 -- What the steps from a file to its program leave.
-use Rattle.std.specs.Prelude.{◌≡◌, ◌⊎◌, ℕ, List, [], ◌∷◌, Result, Ok, Err, Some, None, true, false, IsTrue}
-use Rattle.std.specs.List.{list_all}
-use Rattle.cf_base.specs.Agree.{Agree}
+use Rattle.std.specs.Prelude.{◌≡◌, ◌⊎◌, ℕ, List, [], ◌∷◌, Result, Ok, Err, Some, None, IsTrue}
 use Rattle.cf_base.specs.Disk.{Disk, SameElsewhere, Rises}
-use Rattle.cc_tree.specs.declared.unit.CProgram.{CProgram}
-use Rattle.cf_functions.specs.declared.tree.Program.{Program}
-use Rattle.cf_functions.specs.Plain.{functions_of}
-use Rattle.cf_functions.specs.Mean.{mean}
-use Rattle.cf_functions.specs.Marks.{first_broken_of}
-use Rattle.cf_functions.specs.Rules.{first_unknown_of}
-use Rattle.cf_functions.specs.Translate.{has_main, items}
-use Rattle.cf_functions_read.specs.IsRead.{IsAccepted}
-use Rattle.cf_functions_load.specs.Names.{is_named}
+use Rattle.cc_whole.specs.declared.unit.CUnit.{CUnit}
+use Rattle.cc_whole.specs.declared.unit.CProgram.{CProgram}
+use Rattle.cc_whole_link.specs.Link.{Refusal}
+use Rattle.cc_whole_linked.specs.Limited.{LinksWithin, linked, refused, past_the_limit}
+use Rattle.cc_whole_linker.specs.Answers.{static_limit}
+use Rattle.cc_whole_run.specs.declared.types.Limits.{Limits}
+use Rattle.cc_whole_run.specs.Run.{Broken, meant}
+use Rattle.cf_streams.specs.Streams.{Streams}
+use Rattle.cf_compile.specs.Compiles.{IsCompiled}
+use Rattle.cf_compile.specs.Takes.{frame_bound}
+use Rattle.cf_compile.specs.declared.compiled.Compiled.{Compiled}
 use Rattle.cfront.specs.declared.outcome.Outcome.{Outcome}
 use Rattle.cfront.specs.declared.outcome.Outcome.TheVariants as answer
 use Rattle.cfront.specs.declared.answer.Answer.{Answer}
 use Rattle.cfront.specs.declared.answer.Stop.{Stop}
 use Rattle.cfront.specs.declared.answer.Stop.TheVariants as stop
-use Rattle.cc_run.specs.declared.types.Limits.{Limits}
-use Rattle.cc_tree.specs.declared.unit.CUnit.{CUnit}
-use Rattle.cc_tree.specs.Link.{link, Refusal}
-use Rattle.cc_tree.specs.Plain.{items_of}
-use Rattle.cc_tree.specs.Mean.{c_mean}
-use Rattle.cc_tree.specs.Valid.{valid_unit}
+use Rattle.cfront.specs.declared.translating.Program.{Program}
 use Rattle.cfront.specs.Answer.{WordsCause, WordsLeft}
-use Rattle.cfront.specs.Cause.{FileCause, RefusedAt, LimitedBy, DiskCountsStand, Made, GoCause, TextLeft, LeftByMemory}
+use Rattle.cfront.specs.Cause.{FileCause, RefusedAt, LimitedBy, GoCause, TextLeft, LeftByMemory, StartStops, MayStart}
 use Rattle.cfront.specs.Outside.{Outside}
+use Rattle.cfront.specs.Run.{RanTo}
 use Rattle.cfront.specs.Words.{text_name}
-use Rattle.cfront.specs.Translated.{WasRead, no_main}
+use Rattle.cfront.specs.Translated.{WasRead, DiskCountsStand, Made}
+use Rattle.cf_core.specs.FromUnit.{Unit as CoreUnit}
 
 -- what the disk holds is told as before
 abbrev pub DiskTold : Disk → Disk → Type 0
@@ -45,38 +42,11 @@ ReadLeaves view file old new (Ok bytes) = WasRead file old (view bytes) × DiskS
 ReadLeaves view file old new (Err (stop.Answer a)) = FileCause file old new a.position a.outcome
 ReadLeaves view file old new (Err stop.Memory) = DiskStands old new
 
--- the program of some bytes, or the rule that they break, or the limit that they pass
-abbrev pub AcceptLeaves : List ℕ → Result Program Stop → Type 0
-AcceptLeaves bytes (Ok source) = IsAccepted bytes source
-AcceptLeaves bytes (Err (stop.Answer a)) = RefusedAt bytes a.position a.outcome ⊎ LimitedBy bytes a.outcome
-AcceptLeaves bytes (Err stop.Memory) = bytes ≡ bytes
-
--- what reading gives, and translation asks
-pub record IsSound (source : Program) : Type 0 where
-  pub names : first_broken_of source.functions ≡ None
-  pub known : first_unknown_of (functions_of source) ≡ None
-  pub named : list_all is_named (functions_of source) ≡ true
-
--- The unit alone links to a program, and that program's runs agree with the source's, whatever the input and the limits.
-pub record Linked (source : Program) (unit : CUnit) : Type 0 where
-  pub program : CProgram
-  pub links : link (unit ∷ []) ≡ Ok program
-  pub agrees : (input : List ℕ) (heap depth n : ℕ) → Agree (mean (functions_of source) input heap depth n) (c_mean program input heap depth n)
-
--- The unit has the items of the translation, and alone it does not link, since it has no `main`.
-pub record LacksMain (source : Program) (unit : CUnit) : Type 0 where
-  pub items : items_of unit.items ≡ items (functions_of source)
-  pub refused : link (unit ∷ []) ≡ Err no_main
-
--- by whether the source has a `main`
-pub data Joins (source : Program) (unit : CUnit) : Type 0 where
-  with_main : has_main (functions_of source) ≡ true → Linked source unit → Joins source unit
-  without_main : has_main (functions_of source) ≡ false → LacksMain source unit → Joins source unit
-
--- The unit is valid, and means what the source means where that has a `main`.
-pub record KeepsMeaning (source : Program) (unit : CUnit) : Type 0 where
-  pub valid : valid_unit unit ≡ true
-  pub joins : Joins source unit
+-- the unit and the text of some bytes, or the rule that they break, or the limit that they pass
+abbrev pub CompileLeaves : List ℕ → Result Compiled Stop → Type 0
+CompileLeaves bytes (Ok made) = IsCompiled bytes made
+CompileLeaves bytes (Err (stop.Answer a)) = RefusedAt bytes a.position a.outcome ⊎ LimitedBy bytes a.outcome
+CompileLeaves bytes (Err stop.Memory) = bytes ≡ bytes
 
 -- bytes were written under a name
 pub record WasWritten (name bytes : List ℕ) (old new : Disk) : Type 0 where
@@ -112,27 +82,50 @@ abbrev pub StopLeaves : List ℕ → Disk → Disk → Stop → Type 0
 StopLeaves file old new (stop.Answer a) = FileCause file old new a.position a.outcome
 StopLeaves file old new stop.Memory = MemoryLeft file old new
 
-abbrev pub TranslateLeaves : List ℕ → Disk → Disk → Result CProgram Stop → Type 0
-TranslateLeaves file old new (Ok program) = Made file old new program
+-- the program of a file, with the bound of the frames of its functions
+pub record MadeOf (file : List ℕ) (old new : Disk) (p : Program) : Type 0 where
+  pub made : Made file old new p.program
+  pub frame : p.frame ≡ frame_bound made.stands.translated.source
+
+abbrev pub TranslateLeaves : List ℕ → Disk → Disk → Result Program Stop → Type 0
+TranslateLeaves file old new (Ok p) = MadeOf file old new p
 TranslateLeaves file old new (Err e) = StopLeaves file old new e
 
--- the unit does not link by itself, and the answer is that
+-- a rule of linking is broken, and the answer is that
 pub record LinkFault (unit : CUnit) (outcome : Outcome) : Type 0 where
   pub refusal : Refusal
-  pub refused : link (unit ∷ []) ≡ Err refusal
+  pub refused : LinksWithin (unit ∷ []) (refused refusal)
   pub answered : outcome ≡ answer.LinkRefused refusal.rule refusal.name
+
+-- the variables pass the limit, and the answer is that
+pub record LinkLimit (unit : CUnit) (outcome : Outcome) : Type 0 where
+  pub passed : LinksWithin (unit ∷ []) past_the_limit
+  pub answered : outcome ≡ answer.Limit None static_limit
 
 -- the program that a unit links to by itself, or why it does not
 abbrev pub LinkLeaves : CUnit → Result CProgram Stop → Type 0
-LinkLeaves unit (Ok program) = link (unit ∷ []) ≡ Ok program
-LinkLeaves unit (Err (stop.Answer a)) = LinkFault unit a.outcome
+LinkLeaves unit (Ok program) = LinksWithin (unit ∷ []) (linked program)
+LinkLeaves unit (Err (stop.Answer a)) = LinkFault unit a.outcome ⊎ LinkLimit unit a.outcome
 LinkLeaves unit (Err stop.Memory) = unit ≡ unit
 
--- the unit that a text is read as, which is this one
-abbrev pub ReadLeavesUnit : CUnit → Result CUnit Stop → Type 0
-ReadLeavesUnit unit (Ok again) = again ≡ unit
-ReadLeavesUnit unit (Err (stop.Answer a)) = ⊥
-ReadLeavesUnit unit (Err stop.Memory) = unit ≡ unit
+-- why a program is not run, by the bound of the frames of its file
+abbrev pub StartLeaves : Program → Limits → Result (Unit {0}) Outcome → Type 0
+StartLeaves p limits (Ok done) = (source : CoreUnit) → p.frame ≡ frame_bound source → MayStart p.program source limits
+StartLeaves p limits (Err outcome) = (source : CoreUnit) → p.frame ≡ frame_bound source → StartStops p.program source limits outcome
+
+-- it was not run, and the streams are as they were; or it ran
+pub data StartedAs (p : Program) (limits : Limits) (old new : Streams) (outcome : Outcome) : Type 0 where
+  stays : StartLeaves p limits (Err outcome) → new ≡ old → StartedAs p limits old new outcome
+  runs : StartLeaves p limits (Ok tt) → RanTo p.program limits old new outcome → StartedAs p limits old new outcome
+
+-- memory was wanting in a run that was begun
+pub record BrokenOff (p : Program) (limits : Limits) (old new : Streams) : Type 0 where
+  pub starts : StartLeaves p limits (Ok tt)
+  pub left : Broken (meant p.program limits) old new
+
+abbrev pub StartedLeaves : {M : Type 0} → Program → Limits → Streams → Streams → Result Answer M → Type 0
+StartedLeaves p limits old new (Ok a) = StartedAs p limits old new a.outcome
+StartedLeaves p limits old new (Err memory) = BrokenOff p limits old new
 
 -- an answer before its last line
 abbrev pub GoLeaves : {M : Type 0} → List ℕ → Limits → Outside → Outside → Result Answer M → Type 0

@@ -1,18 +1,12 @@
 -- What stands between a source file and the program that is run.
-use Rattle.std.specs.Prelude.{◌≡◌, ℕ, ◌≤◌, ◌^◌, true, false, List, [], ◌∷◌, Some, Ok, Err, IsTrue, length, codes}
-use Rattle.cf_base.specs.Agree.{Agree}
-use Rattle.cf_base.specs.Disk.{Disk}
-use Rattle.cf_base.specs.World.{Outcome}
-use Rattle.cc_tree.specs.declared.unit.CUnit.{CUnit}
-use Rattle.cc_tree.specs.declared.unit.CProgram.{CProgram}
-use Rattle.cc_tree.specs.Link.{link, Refusal}
-use Rattle.cc_tree.specs.Plain.{items_of}
-use Rattle.cc_tree.specs.CMean.{AreTexts, CMean}
-use Rattle.cf_functions.specs.declared.tree.Program.{Program}
-use Rattle.cf_functions.specs.Plain.{functions_of}
-use Rattle.cf_functions.specs.Mean.{mean}
-use Rattle.cf_functions.specs.Translate.{has_main, items}
-use Rattle.cf_functions_read.specs.First.{First}
+use Rattle.std.specs.Prelude.{◌≡◌, ℕ, ◌≤◌, ◌^◌, List, [], ◌∷◌, Some, Ok, IsTrue, length}
+use Rattle.cf_base.specs.Disk.{Disk, SameElsewhere}
+use Rattle.cc_whole.specs.declared.unit.CUnit.{CUnit}
+use Rattle.cc_whole.specs.declared.unit.CProgram.{CProgram}
+use Rattle.cc_whole_linked.specs.Limited.{LinksWithin, linked}
+use Rattle.cf_compile.specs.Means.{KeepsMeaning}
+use Rattle.cf_compile.specs.Takes.{Takes}
+use Rattle.cf_core.specs.FromUnit.{Unit as CoreUnit}
 use Rattle.cfront.specs.Words.{text_name}
 
 -- the most bytes of a source file
@@ -24,44 +18,29 @@ pub record WasRead (file : List ℕ) (files : Disk) (bytes : List ℕ) : Type 0 
   pub holds : IsTrue files.told → files.content file ≡ Some bytes
   pub short : length bytes ≤ most_bytes
 
--- A text of a source: it is the text of a valid unit, which alone links to this program; and for every input, heap limit, depth limit and
--- bound of ticks, what the text means agrees with what the source means, up to the source's first act without a meaning.
-pub record IsTextOf (source : Program) (text : List ℕ) (program : CProgram) : Type 0 where
-  pub unit : CUnit
-  pub read : AreTexts (text ∷ []) (unit ∷ [])
-  pub linked : link (unit ∷ []) ≡ Ok program
-  pub agrees : (input : List ℕ) (heap depth n : ℕ) (c : Outcome) → CMean (text ∷ []) input heap depth n c
-      → Agree (mean (functions_of source) input heap depth n) c
-
--- no unit defines `main`
-abbrev pub no_main : Refusal
-no_main = record { rule = 4; name = codes "__main" }
-
--- A text of a source without `main`: it is the text of a valid unit with the items of the source's translation, which alone does not link for that.
-pub record IsUnlinkedTextOf (source : Program) (text : List ℕ) : Type 0 where
-  pub unit : CUnit
-  pub read : AreTexts (text ∷ []) (unit ∷ [])
-  pub items : items_of unit.items ≡ items (functions_of source)
-  pub refused : link (unit ∷ []) ≡ Err no_main
-
--- The file was read and accepted and has a `main`, and a text of what it spells stands beside it.
-pub record Translated (file : List ℕ) (old new : Disk) (program : CProgram) : Type 0 where
+-- The file was read and taken, and beside it stands a text that keeps its meaning: that of this unit.
+pub record Translated (file : List ℕ) (old new : Disk) (unit : CUnit) : Type 0 where
   pub bytes : List ℕ
   pub read : WasRead file old bytes
-  pub source : Program
-  pub accepted : First bytes (Ok source)
-  pub main : has_main (functions_of source) ≡ true
+  pub source : CoreUnit
+  pub taken : Takes bytes (Ok source)
   pub text : List ℕ
   pub written : IsTrue old.told → new.content (text_name file) ≡ Some text
-  pub text_of : IsTextOf source text program
+  pub keeps : KeepsMeaning source unit text
 
--- The file was read and accepted and has no `main`, and a text of what it spells, which does not link, stands beside it.
-pub record Unlinked (file : List ℕ) (old new : Disk) : Type 0 where
-  pub bytes : List ℕ
-  pub read : WasRead file old bytes
-  pub source : Program
-  pub accepted : First bytes (Ok source)
-  pub no_main : has_main (functions_of source) ≡ false
-  pub text : List ℕ
-  pub written : IsTrue old.told → new.content (text_name file) ≡ Some text
-  pub text_of : IsUnlinkedTextOf source text
+-- no read and no write failed
+pub record DiskCountsStand (old new : Disk) : Type 0 where
+  pub reads : new.read_faults ≡ old.read_faults
+  pub writes : new.write_faults ≡ old.write_faults
+
+-- the text of the file stands, and no other file was touched
+pub record TextStands (file : List ℕ) (old new : Disk) (unit : CUnit) : Type 0 where
+  pub translated : Translated file old new unit
+  pub elsewhere : IsTrue old.told → SameElsewhere (text_name file) old.content new.content
+  pub counts : DiskCountsStand old new
+
+-- and its unit alone links to this program
+pub record Made (file : List ℕ) (old new : Disk) (program : CProgram) : Type 0 where
+  pub unit : CUnit
+  pub stands : TextStands file old new unit
+  pub linked : LinksWithin (unit ∷ []) (linked program)

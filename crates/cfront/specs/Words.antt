@@ -1,6 +1,6 @@
 -- What the words behind the program's name ask for.
 use Rattle.std.specs.Prelude.{◌≡◌, ℕ, Bool, true, false, not, ◌==◌, List, [], ◌∷◌, ◌++◌, codes, drop, IsTrue}
-use Rattle.cc_run.specs.declared.types.Limits.{Limits}
+use Rattle.cc_whole_run.specs.declared.types.Limits.{Limits}
 
 -- the limits of a run that no option changes: ticks, entered functions, bytes of heap
 abbrev pub default_limits : Limits

@@ -2,18 +2,20 @@ ghost use Rattle.std.specs.Prelude.{◌≡◌, ◌≤◌, ◌<◌, ◌^◌, None
 ghost use Rattle.cfront.specs.Answer.{GoKeeps};
 ghost use Rattle.cfront.specs.LastLine.{file_name};
 ghost use Rattle.cfront.specs.Outside.{outside, KeepTelling};
-ghost use Rattle.cfront.specs.Steps.{GoLeaves};
+ghost use Rattle.cf_streams.specs.Streams.{streams, StillTold};
+ghost use Rattle.cfront.specs.Steps.{GoLeaves, StartedLeaves};
 
 use crate::answer::{Answer, Stop};
 use crate::outcome::Outcome;
 use crate::running::run_program;
-use crate::translating::translated;
+use crate::starting::may_start;
+use crate::translating::{Program, translated};
 use crate::writing::finished;
-use cc_run::Limits;
+use cc_whole_run::Limits;
 use cf_base::{Files, Memory, Sink, Source};
 use std::alloc::Global;
 
-/// Translates a file, writes its text beside it, reads that text again, links it and runs it, all but the last line.
+/// Translates a file, writes its text beside it, links its unit and runs it, all but the last line.
 pub fn gone<F: Files, I: Source, O: Sink, E: Sink>(
     alloc: Global,
     limits: Limits,
@@ -29,12 +31,30 @@ pub fn gone<F: Files, I: Source, O: Sink, E: Sink>(
         (outside (F.disk files.new) (I.stream input.new) (O.stream out.new) (E.stream err.new)) }
 {
     match translated(alloc, file, files) {
-        Ok(program) => match run_program(alloc, &program, limits, input, out, err) {
+        Ok(program) => started(alloc, &program, limits, input, out),
+        Err(Stop::Answer(answer)) => Ok(answer),
+        Err(Stop::Memory) => Err(Memory),
+    }
+}
+
+/// Runs a program, where the limits let it.
+fn started<I: Source, O: Sink>(
+    alloc: Global,
+    program: &Program,
+    limits: Limits,
+    input: &mut I,
+    out: &mut O,
+) -> Result<Answer, Memory>
+    requires frame { program.now.frame ≤ 65536 }
+    ensures leaves { StartedLeaves program.now limits (streams (I.stream input.old) (O.stream out.old)) (streams (I.stream input.new) (O.stream out.new)) result }
+    ensures told { StillTold (streams (I.stream input.old) (O.stream out.old)) (streams (I.stream input.new) (O.stream out.new)) }
+{
+    match may_start(program, limits) {
+        Ok(()) => match run_program(alloc, &program.program, limits, input, out) {
             Ok(outcome) => Ok(Answer::plain(outcome)),
             Err(Memory) => Err(Memory),
         },
-        Err(Stop::Answer(answer)) => Ok(answer),
-        Err(Stop::Memory) => Err(Memory),
+        Err(outcome) => Ok(Answer::plain(outcome)),
     }
 }
 

@@ -1,12 +1,12 @@
 ghost use Rattle.std.specs.Prelude.{◌≡◌, [], ◌∷◌, ◌-◌, codes, get_or, decimal, map, string_bytes};
 ghost use Rattle.std.specs.List.{concat};
 ghost use Rattle.cf_base.specs.Rule.{texts};
-ghost use Rattle.cc_run.specs.Run.{number_of};
+ghost use Rattle.cc_whole_memory.specs.Store.{act_number as number_of};
 ghost use Rattle.cfront.specs.LastLine.{last_line, file_name, bound_name, limit_place, opening, section, closing};
 
 use crate::answer::Answer;
 use crate::outcome::Outcome;
-use cc_tree::Act;
+use cc_whole_memory::Act;
 use cf_base::{Bound, Rule};
 use itoa::Buffer;
 
@@ -51,6 +51,10 @@ pub fn line_pieces<'a>(
                 digits.first.format(act_number(*act)),
             )
         }
+        Outcome::Frames { product } => number_line(
+            b"cfront: frames ",
+            digits.first.format(*product),
+        ),
         Outcome::Usage => plain_line(b"usage: cfront go|translate|layout|link|run|name|sample\n"),
         Outcome::FileFault => plain_line(b"cfront: file fault\n"),
         Outcome::SourceFault => plain_line(b"cfront: source fault\n"),
@@ -233,5 +237,17 @@ fn bound_text<'a>(bound: Bound) -> &'a [u8]
 fn act_number(act: Act) -> u8
     ensures { result ≡ number_of act }
 {
-    act as u8
+    match act {
+        Act::A1 => 1,
+        Act::A2 => 2,
+        Act::A3 => 3,
+        Act::A4 => 4,
+        Act::A5 => 5,
+        Act::A6 => 6,
+        Act::A7 => 7,
+        Act::A8 => 8,
+        Act::A9 => 9,
+        Act::A10 => 10,
+        Act::A11 => 11,
+    }
 }

@@ -10,9 +10,13 @@ mod disk_files;
 mod failing_tests;
 mod go;
 mod last_line;
+mod laws;
+#[cfg(test)]
+mod limit_tests;
 mod outcome;
 mod position;
 mod running;
+mod starting;
 mod streams;
 #[cfg(test)]
 mod tests;

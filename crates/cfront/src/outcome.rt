@@ -2,14 +2,14 @@ ghost use Rattle.std.specs.Prelude.{◌≡◌};
 ghost use Rattle.cf_base.specs.Integers.{bits_of};
 ghost use Rattle.cfront.specs.LastLine.{status_of, exit_status};
 
-use cc_tree::Act;
+use cc_whole_memory::Act;
 use cf_base::{Limit, Memory, Name, Rule};
 
 /// The answer of a job. A `file` counts the FILEs of the job from 1.
 #[derive(Debug, Drop, PartialEq, Eq)]
 pub enum Outcome {
     /// The program ended with this status.
-    Ended { status: i32 },
+    Ended { status: i64 },
     /// No tick was left.
     Ticks,
     /// No level of depth was left.
@@ -22,6 +22,8 @@ pub enum Outcome {
     Refused { file: u32, rule: Rule, at: u32 },
     /// The text does not link: this rule of linking is broken, 1 to 6, about this name.
     LinkRefused { rule: u8, name: Name },
+    /// The greatest bound of the functions' frames times the depth, in bytes, is this, which is more than 2^23.
+    Frames { product: u64 },
     /// A limit is passed, of a file or of the job.
     Limit { file: Option<u32>, limit: Limit },
     /// A call on the files failed.
@@ -56,12 +58,13 @@ fn status_of_outcome(outcome: &Outcome) -> u8
         Outcome::Ticks => 107,
         Outcome::Depth => 108,
         Outcome::Undefined { .. } => 110,
+        Outcome::Frames { .. } => 111,
         Outcome::Limit { .. } => 113,
     }
 }
 
 /// The status modulo 256.
-fn low_byte(status: i32) -> u8
+fn low_byte(status: i64) -> u8
     ensures { result ≡ bits_of 8 status }
 {
     status.rem_euclid(256) as u8

@@ -1,32 +1,28 @@
 ghost use Rattle.std.specs.Prelude.{◌≡◌, ◌⊎◌};
-ghost use Rattle.cc_run.specs.Run.{streams, StillTold};
+ghost use Rattle.cf_streams.specs.Streams.{streams, StillTold};
 ghost use Rattle.cfront.specs.Run.{outcome_of, RunLeaves, FlushDone, FlushFailed};
 
 use crate::outcome::Outcome;
-use cc_run::{Limits, Machine};
-use cc_tree::{CProgram, End};
+use cc_whole::CProgram;
+use cc_whole_run::{End, Limits, Machine};
 use cf_base::{Failed, Memory, Sink, Source};
 use std::alloc::Global;
 
 /// Runs a program and then flushes its output.
-pub fn run_program<I: Source, O: Sink, E: Sink>(
+pub fn run_program<I: Source, O: Sink>(
     alloc: Global,
     program: &CProgram,
     limits: Limits,
     input: &mut I,
     out: &mut O,
-    err: &mut E,
 ) -> Result<Outcome, Memory>
-    ensures leaves { RunLeaves program.now limits (streams (I.stream input.old) (O.stream out.old) (E.stream err.old))
-        (streams (I.stream input.new) (O.stream out.new) (E.stream err.new)) result }
-    ensures told { StillTold (streams (I.stream input.old) (O.stream out.old) (E.stream err.old))
-        (streams (I.stream input.new) (O.stream out.new) (E.stream err.new)) }
+    ensures leaves { RunLeaves program.now limits (streams (I.stream input.old) (O.stream out.old))
+        (streams (I.stream input.new) (O.stream out.new)) result }
+    ensures told { StillTold (streams (I.stream input.old) (O.stream out.old))
+        (streams (I.stream input.new) (O.stream out.new)) }
 {
-    let machine = match Machine::new(alloc, program, limits) {
-        Ok(machine) => machine,
-        Err(Memory) => return Err(Memory),
-    };
-    let ran = machine.run(input, out, err, false)?;
+    let machine = Machine::new(alloc, program, limits);
+    let ran = machine.run(input, out)?;
     match ran.end {
         End::SinkFault => Ok(Outcome::SinkFault),
         end => Ok(flushed(end, out)),

@@ -5,9 +5,9 @@ ghost use Rattle.std.specs.Prelude.{◌≤◌, ◌^◌};
 use crate::go::go_with;
 use crate::outcome::{Outcome, status};
 use crate::top::{DEFAULT_LIMITS, cfront};
-use cc_run::Limits;
-use cc_tree::Act;
-use cf_base::{Bound, Files, Limit, MemFiles, MemSink, MemSource, Memory, Name, Rule};
+use cc_whole_memory::Act;
+use cc_whole_run::Limits;
+use cf_base::{Files, MemFiles, MemSink, MemSource, Memory, Name, Rule};
 use std::alloc::{AllocError, Global};
 use std::process::Abort;
 use std::test::Fail;
@@ -89,7 +89,7 @@ pub fn check(
 }
 
 /// Does `go` on a file with this text, and checks its answer, its output and the line on `err`.
-fn check_text(
+pub fn check_text(
     rt: &impl Abort,
     alloc: Global,
     text: &[u8],
@@ -187,30 +187,30 @@ fn lexical_faults_come_first(rt: HostRuntime) -> Result<(), Fail> {
 }
 
 #[test]
-fn another_constant_is_outside(rt: HostRuntime) -> Result<(), Fail> {
-    let line = "a.C:1:19: K48 outside the profile\n";
-    let constant = b"int main(){return 1u;}";
-    check_text(&rt, rt.alloc(), constant, refused(48, 18), "", line)
+fn constants_have_their_types(rt: HostRuntime) -> Result<(), Fail> {
+    let want = Outcome::Ended { status: 1 };
+    let constants = b"int main(){return 1u-2u>0;}";
+    check_text(&rt, rt.alloc(), constants, want, "", "cfront: ended 1\n")
 }
 
 #[test]
 fn rules_of_names_are_broken_at_the_name(rt: HostRuntime) -> Result<(), Fail> {
     let second_local = b"int main(){int a=1;\nint a=2;}";
-    let line = "a.C:2:5: K48 outside the profile\n";
-    check_text(&rt, rt.alloc(), second_local, refused(48, 24), "", line)?;
+    let line = "a.C:2:5: K8 (3.1) declared twice\n";
+    check_text(&rt, rt.alloc(), second_local, refused(8, 24), "", line)?;
     let no_argument = b"int f(int a){return a;}int main(){return f();}";
-    let line = "a.C:1:42: K48 outside the profile\n";
-    check_text(&rt, rt.alloc(), no_argument, refused(48, 41), "", line)?;
+    let line = "a.C:1:42: K15 (5.2.2) wrong number of arguments\n";
+    check_text(&rt, rt.alloc(), no_argument, refused(15, 41), "", line)?;
     let second_parameter = b"int f(int a,int a){return a;}int main(){return f(1,2);}";
-    let line = "a.C:1:17: K48 outside the profile\n";
-    check_text(&rt, rt.alloc(), second_parameter, refused(48, 16), "", line)?;
-    let behind_an_unknown_name = b"int f(){return 1;}int main(){return x;}int f(){return 2;}";
-    let line = "a.C:1:44: K48 outside the profile\n";
+    let line = "a.C:1:17: K8 (3.1) declared twice\n";
+    check_text(&rt, rt.alloc(), second_parameter, refused(8, 16), "", line)?;
+    let before_a_second_function = b"int f(){return 1;}int main(){return x;}int f(){return 2;}";
+    let line = "a.C:1:37: K10 (3.2) undeclared name\n";
     check_text(
         &rt,
         rt.alloc(),
-        behind_an_unknown_name,
-        refused(48, 43),
+        before_a_second_function,
+        refused(10, 36),
         "",
         line,
     )
@@ -259,9 +259,16 @@ fn unmatched_bracket_is_not_in_the_grammar(rt: HostRuntime) -> Result<(), Fail> 
 }
 
 #[test]
-fn declaration_of_a_local_in_brackets_is_outside(rt: HostRuntime) -> Result<(), Fail> {
+fn declaration_of_a_local_in_brackets(rt: HostRuntime) -> Result<(), Fail> {
+    let want = Outcome::Ended { status: 5 };
+    let text = b"typedef int T;int main(){T(x);x=5;return x;}";
+    check_text(&rt, rt.alloc(), text, want, "", "cfront: ended 5\n")
+}
+
+#[test]
+fn class_is_outside(rt: HostRuntime) -> Result<(), Fail> {
     let line = "a.C:1:1: K48 outside the profile\n";
-    let text = b"typedef int T;int main(){T(x);return 0;}";
+    let text = b"struct S{int n;};int main(){return 0;}";
     check_text(&rt, rt.alloc(), text, refused(48, 0), "", line)
 }
 
@@ -323,14 +330,14 @@ fn overflow_after_output(rt: HostRuntime) -> Result<(), Fail> {
 
 #[test]
 fn value_of_a_function_that_gave_none(rt: HostRuntime) -> Result<(), Fail> {
-    let want = Outcome::Undefined { act: Act::A11 };
+    let want = Outcome::Ended { status: 0 };
     check_text(
         &rt,
         rt.alloc(),
         b"int f(){}int main(){f();return f();}",
         want,
         "",
-        "cfront: undefined act A11\n",
+        "cfront: ended 0\n",
     )
 }
 
@@ -368,56 +375,6 @@ fn sum_with_output(rt: HostRuntime) -> Result<(), Fail> {
         b"int f(int n){int s=0;while(0<n){s=s+n;n=n-1;}return s;}int main(){putchar(65);return f(4);}";
     let want = Outcome::Ended { status: 10 };
     check_text(&rt, rt.alloc(), text, want, "A", "cfront: ended 10\n")
-}
-
-/// A `main` that returns 7 in so many brackets.
-fn nested(alloc: Global, brackets: u32) -> Result<Vec<u8>, AllocError> {
-    let mut text = Vec::from_slice(alloc, b"int main(){return ")?;
-    for _ in 0..brackets {
-        text.push(b'(')?;
-    }
-    text.push(b'7')?;
-    for _ in 0..brackets {
-        text.push(b')')?;
-    }
-    text.extend_from_slice(b";}")?;
-    Ok(text)
-}
-
-#[test]
-fn nesting(rt: HostRuntime) -> Result<(), Fail> {
-    let alloc = rt.alloc();
-    let most = nested(alloc, 250)?;
-    let want = Outcome::Ended { status: 7 };
-    check_text(&rt, alloc, &most, want, "", "cfront: ended 7\n")?;
-    let more = nested(alloc, 251)?;
-    let want = Outcome::Limit {
-        file: Some(1),
-        limit: Limit {
-            bound: Bound::Nesting,
-            most: 256,
-        },
-    };
-    check_text(&rt, alloc, &more, want, "", "a.C: limit Nesting 256\n")
-}
-
-#[test]
-fn long_file_passes_the_limit(rt: HostRuntime) -> Result<(), Fail> {
-    let alloc = rt.alloc();
-    let text = vec![in alloc; b' '; 1_048_577]?;
-    let want = Outcome::Limit {
-        file: Some(1),
-        limit: Limit {
-            bound: Bound::Bytes,
-            most: 1_048_576,
-        },
-    };
-    let job = Job {
-        words: &["go", "a.C"],
-        text: text.as_slice(),
-        failing: NONE_FAILS,
-    };
-    check(&rt, alloc, &job, want, "a.C: limit Bytes 1048576\n")
 }
 
 /// What `go` answers on a file with this text, within so many ticks, and what it leaves on `err`.

@@ -9,7 +9,7 @@ use crate::go::gone;
 use crate::outcome::Outcome;
 use crate::words::{file_names, go_file};
 use crate::writing::finished;
-use cc_run::Limits;
+use cc_whole_run::Limits;
 use cf_base::{Files, Memory, Sink, Source};
 use std::alloc::Global;
 

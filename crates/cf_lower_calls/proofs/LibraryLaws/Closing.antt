@@ -5,11 +5,10 @@ use Rattle.std.proofs.lemmas.Bool.Decides.{nat_tests}
 use Rattle.cf_base.specs.declared.kind.Kind.TheVariants.{Int}
 use Rattle.cf_base.specs.World.{World, Ran, Went}
 use Rattle.cf_core.specs.Types.{integer}
-use Rattle.cf_core.specs.Run.{State, Did, Gives, ◌>>=◌, ◌>>◌, gives, malformed, some_or, with_object, object_changed, gone}
-use Rattle.cf_core.specs.Calls.{root, destroy}
+use Rattle.cf_core.specs.Run.{State, Did, Gives, ◌>>◌, gives, with_object, gone}
 use Rattle.cf_plain.specs.Plain as plain
 use Rattle.cf_plain.specs.Plain.{Register, act}
-use Rattle.cf_plain.specs.Acts.{Registers, doing}
+use Rattle.cf_plain.specs.Acts.{Registers, end_local}
 use Rattle.cf_plain.specs.Running.{Flow, Falls, calls, does}
 use Rattle.cf_plain_kept.specs.Kept.{nothing_set}
 use Rattle.cc_whole_mean.specs.Flow as c
@@ -43,7 +42,7 @@ module _ (z : Scene) (fits : Fits z) (around : Around Point) (h : Keeping) (xs :
       open_there 0 g s u w at
 
   abbrev finishing : Option ℕ → Ran (Did Flow)
-  finishing x = (some_or x malformed >>= (λ o. destroy (calls (again_at z 0)) z.program (integer Int) (root o) >> doing (object_changed o gone)) >> gives (Falls g)) s w
+  finishing x = (end_local (calls (again_at z 0)) z.program (integer Int) x >> gives (Falls g)) s w
 
   done : Simulates S (Went (Gives (Falls g) (with_object o gone s)) w) (Went (c.Falls u) w)
   done = sim-of S _ (Went (Gives (Falls g) (with_object o gone s)) w) (Went (c.Falls u) w) (sym (ap finishing there)) leads

@@ -17,7 +17,7 @@ returns c =
     let t = c.any_other_type-other_type.result in
     let u = option_copied c.undefined_use-undefined.result in
     let undefined : undefined_use all p ≡ u =
-    sym (undefined_is all p) ∙ ap (λ names. find (is_undefined names) p.uses) (sym c.requires) ∙ ap (find (is_undefined c.args.defined.now)) (sym c.as_slice.ensures)
+    sym (undefined_is all p) ∙ ap (λ names. find (is_undefined names) p.uses) (sym c.requires.names) ∙ ap (find (is_undefined c.args.defined.now)) (sym c.as_slice.ensures)
     ∙ sym c.undefined_use-undefined.ensures in
     let found = breaks all before p u c.in_ok-twice.twice d t undefined (sym c.in_ok-twice.ensures) c.differs-differ.ensures (sym c.any_other_type-other_type.ensures) in
     IfOk-weaker c.first_of.result _ _

@@ -1,5 +1,5 @@
 -- The answer has its cause, and its last line is written behind it.
-use Rattle.std.proofs.Common.{◌≡◌, ℕ, List, subst, map, string_bytes}
+use Rattle.std.proofs.Common.{ℕ, List, subst, map, string_bytes}
 use Rattle.cfront.specs.Words.{default_limits}
 use Rattle.cfront.specs.Answer.{EndsWith}
 use Rattle.cfront.specs.LastLine.{last_line}

@@ -1,0 +1,1 @@
+int main(){int a=0;return 5/a;}

@@ -1,0 +1,1 @@
+int main(){char b[65536];return 7;}

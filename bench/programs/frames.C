@@ -1,0 +1,1 @@
+int main(){char b[8200];return 7;}

@@ -1,0 +1,1 @@
+int one(){return 1;}int main(){int(*p)()=one;return p==one;}

@@ -1,0 +1,1 @@
+extern int getchar();int main(){return getchar()+1;}

@@ -1,0 +1,1 @@
+int main(){enum E{P,Q};E e=Q;return e;}

@@ -1,0 +1,2 @@
+# 1 "x.c"
+main(){putchar('x');}

@@ -1,0 +1,1 @@
+int main(){for(;;);return 0;}

@@ -1,0 +1,1 @@
+int main(){int a=32;return 1<<a;}

@@ -1,4 +1,0 @@
-pub mod Lists
-pub mod PlacedLaws
-pub mod RuleLaws
-pub mod UseLaws

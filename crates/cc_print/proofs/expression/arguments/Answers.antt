@@ -1,8 +1,0 @@
-use Rattle.cc_print.specs.Printed.{whole_text}
-use Rattle.cc_print.proofs.Pieces.{commas_step}
-use Rattle.cc_print.proofs.expression.arguments.Goals as goal
-
-pub loop-at-preserved : goal.loop-at-preserved
-loop-at-preserved c =
-    commas_step whole_text c.as_slice-expr-items.result.now c.loop-at.at c.expr-item.result c.args.out.now.items c.loop-at.out.items c.put_if.new.out.items
-    c.whole.new.out.items c.loop-at-test.true c.expr-item.is c.loop-at.invariant c.in_ok-put_if.ensures c.in_ok-whole.ensures

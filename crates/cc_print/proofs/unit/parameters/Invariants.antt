@@ -1,7 +1,0 @@
-use Rattle.std.proofs.Common.{◌≡◌, ◌++◌, map, take}
-use Rattle.cc_print.specs.Lines.{with_commas}
-use Rattle.cc_print.specs.Printed.{parameter_text}
-use Rattle.cc_print.proofs.unit.parameters.Given as goal
-
-abbrev pub invariant-loop-at : goal.invariant-loop-at
-invariant-loop-at l = l.out.items ≡ l.initial.out.items ++ with_commas (map parameter_text (take l.at l.one-items))

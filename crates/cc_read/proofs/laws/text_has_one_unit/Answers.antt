@@ -1,5 +1,0 @@
-use Rattle.cc_read.proofs.ReadLaws.{one_unit}
-use Rattle.cc_read.proofs.laws.text_has_one_unit.Goals as goal
-
-pub returns : goal.returns
-returns c = one_unit

@@ -1,9 +1,0 @@
-use Rattle.std.proofs.Common.{◌∙◌, ◌+◌, ◌-◌, sym, ap}
-use Rattle.cc_run.specs.Blocks.{memory_of, ended_from}
-use Rattle.cc_run.proofs.BlockLaws.{ended_from-step}
-use Rattle.cc_run.proofs.blocks.end_blocks.Goals as goal
-
-pub loop-index-preserved : goal.loop-index-preserved
-loop-index-preserved c =
-    ap (λ m. ended_from (c.args.count - (c.loop-index.index + 1)) (c.args.first + (c.loop-index.index + 1)) m) c.end_block.ensures
-    ∙ sym (ended_from-step c.args.count c.loop-index.index c.args.first (memory_of c.loop-index.blocks.items) c.loop-index-test.true) ∙ c.loop-index.invariant

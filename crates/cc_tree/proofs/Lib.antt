@@ -1,4 +1,0 @@
-pub mod Enough
-pub mod Growth
-mod Tried
-pub mod Views

@@ -1,9 +1,0 @@
-pub mod Build
-pub mod CMean
-pub mod Link
-pub mod Mean
-pub mod Memory
-pub mod Plain
-pub mod Spells
-pub mod Text
-pub mod Valid

@@ -1,3 +1,0 @@
-mod ItemLaws
-mod NameLaws
-mod TableLaws

@@ -1,0 +1,44 @@
+use Rattle.std.proofs.Common.{◌∙◌, Bool, None, ap, sym, subst}
+use Rattle.std.specs.Prelude.{option_map}
+use Rattle.std.specs.List.{list_any}
+use Rattle.std.specs.Option.{option_copied}
+use Rattle.cc_whole_link.specs.Link.{second}
+use Rattle.cc_whole_link.specs.Placed.{Placed, its_name}
+use Rattle.cc_whole_placed.specs.Seen.{placed_of}
+use Rattle.cc_whole_linker.specs.Earlier.{Next, Passes}
+use Rattle.cc_whole_linker.proofs.EarlierLaws.{found, passed, ended, none-of, second-by_name}
+use Rattle.cc_whole_linker.proofs.twice.any_second.Goals as goal
+
+abbrev test : Placed → Placed → Bool
+test p = second p
+
+pub loop-other-init : goal.loop-other-init
+loop-other-init c = record { same = c.of-left.ensures.name; rest = ap (list_any (test (placed_of c.args.placed.now))) c.of-left.ensures.items }
+
+pub returns-then-second : goal.returns-then-second
+returns-then-second c =
+    let p = placed_of c.args.placed.now in
+    let passes : Passes c.loop-other.left (placed_of c.in-Some.other.now) c.next.new.self =
+    subst (λ r. Next c.loop-other.left (option_map placed_of (option_copied r)) c.next.new.self) c.in-Some.is c.next.ensures in
+    sym (sym c.loop-other.invariant.rest
+    ∙ found (test p) (its_name p) (second-by_name p) c.loop-other.left c.next.new.self (placed_of c.in-Some.other.now) passes (sym c.second.ensures ∙ c.if-second.true))
+
+pub loop-other-preserved : goal.loop-other-preserved
+loop-other-preserved c =
+    let p = placed_of c.args.placed.now in
+    let passes : Passes c.loop-other.left (placed_of c.in-Some.other.now) c.next.new.self =
+    subst (λ r. Next c.loop-other.left (option_map placed_of (option_copied r)) c.next.new.self) c.in-Some.is c.next.ensures in
+    record {
+      same = passes.same_name ∙ c.loop-other.invariant.same;
+      rest =
+          passed (test p) (its_name p) (second-by_name p) c.loop-other.left c.next.new.self (placed_of c.in-Some.other.now) passes c.loop-other.invariant.same
+          (sym c.second.ensures ∙ c.if-second.false)
+          ∙ c.loop-other.invariant.rest;
+    }
+
+pub returns : goal.returns
+returns c =
+    let p = placed_of c.args.placed.now in
+    let none : Next c.loop-other.left None c.next.new.self =
+    subst (λ r. Next c.loop-other.left (option_map placed_of (option_copied r)) c.next.new.self) (none-of c.next.result c.in_default.not-Some) c.next.ensures in
+    sym (sym c.loop-other.invariant.rest ∙ ended (test p) (its_name p) (second-by_name p) c.loop-other.left c.next.new.self c.loop-other.invariant.same none)

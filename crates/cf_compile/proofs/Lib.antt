@@ -1,0 +1,4 @@
+pub mod Answered
+pub mod Greatest
+pub mod Keeping
+pub mod Once

@@ -1,9 +1,0 @@
-use Rattle.cc_tree.specs.declared.types.CType.TheVariants.{Int}
-use Rattle.cc_tree.specs.declared.unit.CParameter.{CParameter}
-use Rattle.cf_functions_lower.proofs.UnitLaws.{one_slot}
-use Rattle.cf_functions_lower.proofs.unit.parameters.Goals as goal
-
-pub loop-number-preserved : goal.loop-number-preserved
-loop-number-preserved c =
-    one_slot {X = CParameter} (λ name. record { ty = Int; name = name }) c.loop-number.all c.push.new.self _ c.in_ok-variable_name.field-0 c.args.count
-    c.loop-number.number c.loop-number-test.true c.in_ok-variable_name.ensures c.in_ok-push.ensures.ok c.loop-number.invariant

@@ -1,4 +1,0 @@
-mod BehindLaws
-mod FirstLaws
-mod HeadLaws
-mod WalkLaws

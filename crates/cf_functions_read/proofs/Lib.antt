@@ -1,2 +1,0 @@
-mod Answer
-mod Reading

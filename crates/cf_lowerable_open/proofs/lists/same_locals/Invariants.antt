@@ -1,7 +1,0 @@
-use Rattle.std.proofs.Common.{◌≡◌, drop}
-use Rattle.cf_lower_kept.specs.Opened.{same_locals}
-use Rattle.cf_lowerable_open.specs.Told.{all_told}
-use Rattle.cf_lowerable_open.proofs.lists.same_locals.Given as goal
-
-abbrev pub invariant-loop-index : goal.invariant-loop-index
-invariant-loop-index l = same_locals (drop l.index (all_told l.left)) (drop l.index (all_told l.right)) ≡ same_locals (all_told l.left) (all_told l.right)

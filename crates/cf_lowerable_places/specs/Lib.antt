@@ -1,0 +1,4 @@
+pub mod Contents
+pub mod Fits
+pub mod Library
+pub mod Labels

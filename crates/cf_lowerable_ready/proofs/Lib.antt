@@ -1,0 +1,14 @@
+pub mod Locals
+pub mod Lists
+pub mod Keepings
+pub mod InnerTypes
+pub mod TypeLaws
+pub mod TakeLaws
+pub mod Meetings
+pub mod GivenLaws
+pub mod ActionLaws
+pub mod AskedLaws
+pub mod Forgotten
+pub mod StepLaws
+pub mod FunctionForms
+pub mod UnitLaws

@@ -1,0 +1,9 @@
+pub mod Entries
+pub mod FileLaws
+pub mod FormLaws
+pub mod MainLaws
+pub mod NameLaws
+pub mod Soundness
+pub mod Standing
+pub mod TableLaws
+pub mod Tests
