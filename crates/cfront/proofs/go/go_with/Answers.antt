@@ -11,12 +11,16 @@ pub returns-in-Ok : goal.returns-in-Ok
 returns-in-Ok g c =
     let P : List (List ℕ) → Type 0 = λ names. EndsWith (last_line names c.in-Ok.answer.position c.in-Ok.answer.outcome) c.in-Ok.answer.outcome
     c.finished.result (g.E.Sink.stream c.gone.new.err) (g.E.Sink.stream c.finished.new.err) in
-    let Q : List ℕ → Type 0 = λ file. GoCause file c.args.limits
-    (outside (g.F.Files.disk c.args.files.now) (g.I.Source.stream c.args.input.now) (g.O.Sink.stream c.args.out.now) (g.E.Sink.stream c.args.err.now))
-    (outside (g.F.Files.disk c.gone.new.files) (g.I.Source.stream c.gone.new.input) (g.O.Sink.stream c.gone.new.out) (g.E.Sink.stream c.gone.new.err))
-    c.in-Ok.answer.position c.in-Ok.answer.outcome in
+    let files = g.F.Files.disk c.gone.new.files in
+    let input = g.I.Source.stream c.gone.new.input in
+    let out = g.O.Sink.stream c.gone.new.out in
+    let err = g.E.Sink.stream c.gone.new.err in
+    let old = outside (g.F.Files.disk c.args.files.now) (g.I.Source.stream c.args.input.now) (g.O.Sink.stream c.args.out.now) (g.E.Sink.stream c.args.err.now) in
+    let Q : List ℕ → Type 0 = λ file. GoCause file c.args.limits old (outside files input out err) c.in-Ok.answer.position c.in-Ok.answer.outcome in
     let same : c.as_slice-names.result.now ≡ c.args.names.now.items = c.as_slice-names.ensures.value in
     let caused = subst Q (c.first_name.ensures ∙ ap (λ names. file_name (map string_bytes names) 1) same) c.in-Ok.ensures.leaves in
-    answers _ _ _ _ _ _ (g.E.Sink.stream c.gone.new.err) (g.E.Sink.stream c.finished.new.err) c.in-Ok.answer.position c.in-Ok.answer.outcome _ caused
-    (go_counts (file_name (map string_bytes c.args.names.now.items) 1) c.args.limits _ _ c.in-Ok.answer.position c.in-Ok.answer.outcome caused)
+    let names = map string_bytes c.args.names.now.items in
+    answers (GoCause (file_name names 1) c.args.limits) names old files input out err (g.E.Sink.stream c.finished.new.err) c.in-Ok.answer.position
+    c.in-Ok.answer.outcome c.finished.result caused
+    (go_counts (file_name names 1) c.args.limits old (outside files input out err) c.in-Ok.answer.position c.in-Ok.answer.outcome caused)
     (subst P (ap (map string_bytes) same) c.finished.ensures) c.in-Ok.ensures.told
