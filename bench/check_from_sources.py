@@ -20,9 +20,9 @@ import subprocess
 import sys
 
 
-def load(path):
+def kit():
     """The kit's command rt as a module, which knows how a check is called."""
-    loader = importlib.machinery.SourceFileLoader("rt", path)
+    loader = importlib.machinery.SourceFileLoader("rt", os.path.realpath(shutil.which("rt")))
     made = importlib.util.module_from_spec(importlib.util.spec_from_loader("rt", loader))
     sys.modules["rt"] = made
     loader.exec_module(made)
@@ -39,7 +39,7 @@ def modules_of(crate):
 
 def main(name, what, *flags):
     os.chdir(os.path.join(os.path.dirname(os.path.abspath(__file__)), ".."))
-    rt = load(os.path.realpath(shutil.which("rt")))
+    rt = kit()
     crate = next((it for it in rt.crates_of(os.getcwd()) if it.name == name), None)
     if not crate:
         sys.exit(f"crates.txt names no crate {name}")
