@@ -18,7 +18,8 @@ use Rattle.cf_plain.specs.Joined as plain
 use Rattle.cf_plain.specs.Joined.{files_mean}
 use Rattle.cf_sequence.specs.Built.{is_built_function, is_built_static, is_built_setting, is_none, is_built_file}
 use Rattle.cf_sequence.specs.Sequenced.{sequenced, sequenced_function, sequenced_file}
-use Rattle.cf_sequence.proofs.Whole.{of_parts, empty-list, programs-agree}
+use Rattle.cf_sequence.proofs.NoVirtual.{empty-list}
+use Rattle.cf_sequence.proofs.Whole.{of_parts, programs-agree}
 use Rattle.cf_sequence.proofs.SameStatics.{same-functions}
 use Rattle.cf_sequence.proofs.JoinedObjects.{beside as object_beside, placed, set_among, are_constant, built-constant, new-all, new-same as new-same-objects, objects-joined, settings-joined, Set, none-needed, none-needed-beside}
 use Rattle.cf_sequence.proofs.OwnNames.{in_file, is_own, own-functions, own-objects, own-is}

@@ -36,6 +36,7 @@ pub mod Pointers
 pub mod References
 pub mod Sample
 pub mod StaticObjects
+pub mod NoVirtual
 pub mod SameTypes
 pub mod Constants
 pub mod Settings

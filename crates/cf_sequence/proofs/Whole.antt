@@ -40,6 +40,7 @@ use Rattle.cf_sequence.proofs.Scopes.{Ways, scope-steps, closing_scope}
 use Rattle.cf_sequence.proofs.Doing.{follow-statement}
 use Rattle.cf_sequence.proofs.LastingCode.{Rests, rests-at}
 use Rattle.cf_sequence.proofs.Settings.{setting_of, first-stood, settings-steps}
+use Rattle.cf_sequence.proofs.NoVirtual.{empty-list}
 
 -- ---- the objects of parameters
 
@@ -455,10 +456,6 @@ module _ (xs : List Static) (ks : List Setting) (fs : List Function) (set : list
       (record { next = omega arith; objects = λ o lt. record { type = refl; life = refl; gone = refl }; temporaries = tt; scope = record { newer = []; parts = refl; new = tt } })
       (λ u. run_named again (of_parts xs ks fs) (codes "__main") [] None None >>= status_of) (λ u. run_named (calls again') Q (codes "__main") [] None None >>= status_of)
       (λ t g w ready. main-follows n (function_named (of_parts xs ks fs) (codes "__main")) refl t g w ready.alike))) is
-
-pub empty-list : {A : Type 0} (xs : List A) → is_none xs ≡ true → xs ≡ []
-empty-list [] ok = refl
-empty-list (x ∷ xs) ok = never ok
 
 -- The plain program has the program's meaning: the same trace and the same end, with the same ticks.
 pub sequencing-keeps : (P : Program) → is_plainly_built P ≡ true → (input : List ℕ) (heap depth n : ℕ) (o : Outcome)
