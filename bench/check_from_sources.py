@@ -20,11 +20,12 @@ import subprocess
 import sys
 
 
-def kit():
-    """The kit's command rt as a module, which knows how a check is called."""
-    loader = importlib.machinery.SourceFileLoader("rt", os.path.realpath(shutil.which("rt")))
-    made = importlib.util.module_from_spec(importlib.util.spec_from_loader("rt", loader))
-    sys.modules["rt"] = made
+def kit(command="rt"):
+    """A command of the kit as a module: rt knows how a check is called."""
+    file = os.path.join(os.path.dirname(os.path.realpath(shutil.which("rt"))), command)
+    loader = importlib.machinery.SourceFileLoader(command, file)
+    made = importlib.util.module_from_spec(importlib.util.spec_from_loader(command, loader))
+    sys.modules[command] = made
     loader.exec_module(made)
     return made
 

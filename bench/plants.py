@@ -7,25 +7,15 @@ GATE is the checkout in which `rt ci` has proved, or is proving, this text. Run 
 there are no plants that give up, but only those that call the real function. A batch is of 12 plants and may take 40 minutes.
 """
 
-import importlib.machinery
 import os
 import shutil
 import sys
-import types
 
-
-def planter():
-    """The kit's command rt plant as a module."""
-    file = os.path.join(os.path.dirname(os.path.realpath(shutil.which("rt"))), "rt-plant")
-    made = types.ModuleType("rt_plant")
-    made.__file__ = file
-    sys.modules["rt_plant"] = made
-    importlib.machinery.SourceFileLoader("rt_plant", file).exec_module(made)
-    return made
+from check_from_sources import kit
 
 
 def main(gate, name, *flags):
-    here, made, flags = os.getcwd(), planter(), [*flags]
+    here, made, flags = os.getcwd(), kit("rt-plant"), [*flags]
     made.BATCH, made.SECONDS = 12, 2400
     if "--over-only" in flags:
         flags.remove("--over-only")
